@@ -1,0 +1,56 @@
+-- The ranges of lengths, measures, limits and positions, as tests on floats. A NaN is in no order with anything, so it is in no range.
+use Prim.Native.Nat.{ℕ, _^_}
+use mathlib.Core.Path.{_≡_, refl}
+use mathlib.Core.Bool.{Bool, true, false, _&&_, _||_, not}
+use lib.Dec.{eqb}
+use lib.Ieee.{Float, binary64, ofBits, toBits, le, lt, neg, round}
+
+abbrev pub leastLength : Float
+leastLength = ofBits binary64 0x3EB0C6F7A0B5ED8D
+
+abbrev pub most : Float
+most = ofBits binary64 0x41CDCD6500000000
+
+abbrev pub mostLimit : Float
+mostLimit = ofBits binary64 0x426D1A94A2000000
+
+abbrev nothing : Float
+nothing = ofBits binary64 0
+
+-- 01: "no negative zero except in a position". Its bits are the sign alone.
+abbrev pub negativeZero : Float → Bool
+negativeZero x = eqb (toBits binary64 x) (2 ^ 63)
+
+-- 01: "Lengths of kinds and container: 0.000001 to 1,000,000,000."
+abbrev pub isLength : Float → Bool
+isLength x = le leastLength x && le x most
+
+-- 01: "Margin, spacing, masses: 0 to 1,000,000,000."
+abbrev pub isMeasure : Float → Bool
+isMeasure x = (le nothing x && le x most) && not (negativeZero x)
+
+-- 01: "Mass limit: above 0, to 1,000,000,000,000", and in the load file "all-zero limit means none".
+abbrev pub isLimit : Float → Bool
+isLimit x = eqb (toBits binary64 x) 0 || (lt nothing x && le x mostLimit)
+
+-- 01: "Positions: magnitude up to 1,000,000,000."
+abbrev pub isPosition : Float → Bool
+isPosition x = le (neg most) x && le x most
+
+-- 01: "a fill from 0 to 1,000,000,000 (else 3)", for the fitness
+abbrev pub isFill : Float → Bool
+isFill = isMeasure
+
+-- ---- the constants are the decimals of 01: each is the float nearest to it
+
+pub least-length-is : leastLength ≡ round binary64 false 1 1000000
+unfolding ofBits round
+least-length-is = refl
+
+pub most-is : most ≡ round binary64 false 1000000000 1
+unfolding ofBits round
+most-is = refl
+
+pub most-limit-is : mostLimit ≡ round binary64 false 1000000000000 1
+unfolding ofBits round
+most-limit-is = refl

@@ -1,0 +1,2 @@
+-- What the crates above say of binary64.
+pub mod Ops

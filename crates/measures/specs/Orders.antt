@@ -1,0 +1,44 @@
+-- The six axis orders, each rule's share of them, and the lengths of a box in an orientation.
+use Prim.Native.Nat.{ℕ, zero, suc}
+use mathlib.Core.Path.{_≡_, refl}
+use mathlib.Core.Bool.{cond}
+use mathlib.Core.List.{List, [], _∷_, map}
+use lib.Dec.{ltb}
+use lib.ListN.{length, getD}
+use lib.Ieee.{Float, nan}
+use Rattle.measures.specs.declared.Kind.{Kind}
+
+-- 01: "any = (0,1,2) (0,2,1) (1,0,2) (1,2,0) (2,0,1) (2,1,0)", the axes that stand for width, depth and height
+abbrev pub orders : List (List ℕ)
+orders = (0 ∷ 1 ∷ 2 ∷ []) ∷ (0 ∷ 2 ∷ 1 ∷ []) ∷ (1 ∷ 0 ∷ 2 ∷ []) ∷ (1 ∷ 2 ∷ 0 ∷ []) ∷ (2 ∷ 0 ∷ 1 ∷ []) ∷ (2 ∷ 1 ∷ 0 ∷ []) ∷ []
+
+-- The rows of `orders` that a rule allows: 0 is any, 1 upright, 2 fixed. A rule past 2 is refused wherever a kind is tested, and counts as fixed here.
+abbrev pub shareOf : ℕ → List ℕ
+shareOf zero = 0 ∷ 1 ∷ 2 ∷ 3 ∷ 4 ∷ 5 ∷ []
+shareOf (suc zero) = 0 ∷ 2 ∷ []
+shareOf (suc (suc n)) = 0 ∷ []
+
+-- a rule's line in a table by rule
+abbrev pub rowOf : ℕ → ℕ
+rowOf zero = 0
+rowOf (suc zero) = 1
+rowOf (suc (suc n)) = 2
+
+-- a rule's orientation i as an axis order
+abbrev pub orderAt : ℕ → ℕ → List ℕ
+orderAt rule i = getD orders (getD (shareOf rule) i 0) []
+
+-- the lengths with their axes in this order
+abbrev pub turned : List Float → List ℕ → List Float
+turned size o = getD size (getD o 0 0) nan ∷ getD size (getD o 1 0) nan ∷ getD size (getD o 2 0) nan ∷ []
+
+-- 01: "An index past the list gives the unrotated lengths."
+unfoldable pub lengthsIn : Kind → ℕ → List Float
+lengthsIn k i = cond (ltb i (length (shareOf (k .rule)))) (turned (k .size) (orderAt (k .rule) i)) (k .size)
+
+-- 01: "upright = (0,1,2) (1,0,2); fixed = (0,1,2)"
+pub upright-is : map (λ i. getD orders i []) (shareOf 1) ≡ (0 ∷ 1 ∷ 2 ∷ []) ∷ (1 ∷ 0 ∷ 2 ∷ []) ∷ []
+upright-is = refl
+
+pub fixed-is : map (λ i. getD orders i []) (shareOf 2) ≡ (0 ∷ 1 ∷ 2 ∷ []) ∷ []
+fixed-is = refl

@@ -1,0 +1,140 @@
+// Kinds of boxes, the container, and the lengths of a box in each orientation (geometry.rs, boundary.rs).
+ghost use mathlib.Core.Path.{_≡_};
+ghost use Prim.Native.Nat.{_≤_, _<_};
+ghost use mathlib.Core.List.{[]};
+ghost use lib.ListN.{length, getD};
+ghost use Rattle.measures.specs.Orders.{orders, shareOf, rowOf, lengthsIn};
+ghost use Rattle.measures.specs.Volume.{volume};
+ghost use Rattle.measures.specs.Faults.{recordFault, measureFault, kindFault, containerFault};
+
+// A kind of box, field by field as a kind record of the load file. `rule` is 0 for any orientation, 1 for upright and 2
+// for fixed; `massed` is 1 where the kind has a mass; `filler` is what the record's last two bytes hold.
+pub struct Kind {
+    pub id: u32,
+    pub quantity: u32,
+    pub size: [f64; 3],
+    pub mass: f64,
+    pub rule: u8,
+    pub massed: u8,
+    pub filler: u16,
+}
+
+// The container block of the load file. A limit of +0 is none.
+pub struct Container {
+    pub size: [f64; 3],
+    pub margin: f64,
+    pub spacing: f64,
+    pub limit: f64,
+}
+
+// The six axis orders, and by rule the rows of them that it allows and how many these are.
+const ORDERS: [[usize; 3]; 6] = [
+    [0, 1, 2],
+    [0, 2, 1],
+    [1, 0, 2],
+    [1, 2, 0],
+    [2, 0, 1],
+    [2, 1, 0],
+];
+
+const SHARES: [[usize; 6]; 3] = [[0, 1, 2, 3, 4, 5], [0, 2, 0, 0, 0, 0], [0, 0, 0, 0, 0, 0]];
+
+const COUNTS: [usize; 3] = [6, 2, 1];
+
+// The rule's line in the tables. No accepted kind has a rule past 2; such a one counts as fixed.
+fn row(rule: u8) -> usize
+    ensures { λ r. ⌜ r ≡ rowOf rule ⌝ }
+{
+    if rule > 2 {
+        return 2;
+    }
+    rule as usize
+}
+
+// How many orientations a rule allows.
+pub fn allowed_orientations(rule: u8) -> usize
+    ensures { λ r. ⌜ r ≡ length (shareOf rule) ⌝ }
+{
+    COUNTS[row(rule)]
+}
+
+// The row of the rule's orientation i.
+fn share(rule: u8, i: usize) -> usize
+    requires { ⌜ i < length (shareOf rule) ⌝ }
+    ensures { λ r. ⌜ (r ≡ getD (shareOf rule) i 0) × (r < 6) ⌝ }
+{
+    SHARES[row(rule)][i]
+}
+
+// The axis on place j of row k.
+fn axis(k: usize, j: usize) -> usize
+    requires { ⌜ (k < 6) × (j < 3) ⌝ }
+    ensures { λ r. ⌜ (r ≡ getD (getD orders k []) j 0) × (r < 3) ⌝ }
+{
+    ORDERS[k][j]
+}
+
+// The lengths of a box in an orientation; unrotated where the index is past the rule's list.
+pub fn dimensions_for_orientation(kind: Kind, orientation: u32) -> [f64; 3]
+    ensures { λ r. ⌜ r ≡ lengthsIn kind orientation ⌝ }
+{
+    let size = kind.size;
+    let rule = kind.rule;
+    let i = orientation as usize;
+    if allowed_orientations(rule) <= i {
+        return size;
+    }
+    let k = share(rule, i);
+    let w = axis(k, 0);
+    let d = axis(k, 1);
+    let h = axis(k, 2);
+    [size[w], size[d], size[h]]
+}
+
+// The volume of a box of these lengths: width by depth, then by height.
+pub fn measure(size: [f64; 3]) -> f64
+    ensures { λ r. ⌜ r ≡ volume size ⌝ }
+{
+    size[0] * size[1] * size[2]
+}
+
+// What refusal 4 is given for.
+fn record_fault(k: Kind) -> bool
+    ensures { λ r. ⌜ r ≡ recordFault k ⌝ }
+{
+    let b = floats::bits_of(k.mass);
+    (k.quantity == 0)
+        | ((k.rule > 2) | ((k.massed > 1) | ((k.filler != 0) | ((k.massed == 0) & (b != 0)))))
+}
+
+// What refusal 3 is given for at a kind.
+fn measure_fault(k: Kind) -> bool
+    ensures { λ r. ⌜ r ≡ measureFault k ⌝ }
+{
+    let size = k.size;
+    !domain::is_length(size[0])
+        | (!domain::is_length(size[1])
+            | (!domain::is_length(size[2]) | !domain::is_measure(k.mass)))
+}
+
+// The refusal that a kind gets, 0 for none: 4, then 3, then 5 where its id repeats an earlier kind's.
+pub fn kind_fault(k: Kind, repeats: bool) -> u32
+    ensures { λ r. ⌜ r ≡ kindFault k repeats ⌝ }
+{
+    let record = domain::given(record_fault(k), 4);
+    let range = domain::given(measure_fault(k), 3);
+    let id = domain::given(repeats, 5);
+    domain::or_else(record, domain::or_else(range, id))
+}
+
+// Whether a container gets refusal 3.
+pub fn container_fault(c: Container) -> bool
+    ensures { λ r. ⌜ r ≡ containerFault c ⌝ }
+{
+    let size = c.size;
+    let lengths = !domain::is_length(size[0])
+        | (!domain::is_length(size[1]) | !domain::is_length(size[2]));
+    let rest = !domain::is_measure(c.margin)
+        | (!domain::is_measure(c.spacing) | !domain::is_limit(c.limit));
+    lengths | rest
+}
