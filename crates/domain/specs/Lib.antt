@@ -1,4 +1,5 @@
--- The domain in three files: counts, ranges, refusals.
+-- The domain in four files: counts, ranges, refusals, and laws on them.
 pub mod Bounds
 pub mod Ranges
 pub mod Refusals
+pub mod Laws

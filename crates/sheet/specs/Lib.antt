@@ -1,0 +1,3 @@
+-- The sheet's definitions, and what an accepted one is known to be.
+pub mod Sheets
+pub mod Accepted

@@ -1,0 +1,78 @@
+-- What a sheet holds, and the refusal that it gets: 01's table from 2 on, in 01's order.
+use Prim.Native.Nat.{ℕ, zero, suc}
+use mathlib.Core.Bool.{Bool, not, _||_}
+use mathlib.Core.List.{List, []}
+use lib.Dec.{eqb, ltb}
+use lib.ListN.{getD, set, replicate}
+use lib.Ieee.{nan}
+use Rattle.floats.specs.Ops.{x, y, z}
+use Rattle.domain.specs.Bounds.{mostKinds, mostBoxes, mostLines, mostUnplaced}
+use Rattle.domain.specs.Ranges.{isPosition}
+use Rattle.domain.specs.Refusals.{when, orElse, firstBelow, anyBelow, sumBelow}
+use Rattle.measures.specs.declared.Kind.{Kind}
+use Rattle.measures.specs.declared.Container.{Container}
+use Rattle.measures.specs.Faults.{kindFault, containerFault}
+use Rattle.sheet.specs.declared.Counts.{Counts}
+use Rattle.sheet.specs.declared.Line.{Line}
+use Rattle.sheet.specs.declared.Sheet.{Sheet}
+
+-- ---- what stands past a list's end, which nothing reads
+abbrev pub noKind : Kind
+noKind = record { id = 0; quantity = 0; size = []; mass = nan; rule = 0; massed = 0; filler = 0 }
+
+abbrev pub noLine : Line
+noLine = record { id = 0; instance = 0; orientation = 0; bin = 0; at = [] }
+
+-- kind k, line i, unplaced id i
+abbrev pub kindAt : Sheet → ℕ → Kind
+kindAt s k = getD (s .kinds) k noKind
+
+abbrev pub lineAt : Sheet → ℕ → Line
+lineAt s i = getD (s .lines) i noLine
+
+abbrev pub unplacedAt : Sheet → ℕ → ℕ
+unplacedAt s i = getD (s .unplaced) i 0
+
+-- ---- 01: "2 for kinds, lines, unplaced"
+abbrev pub overCount : Counts → Bool
+overCount m = ltb mostKinds (m .kinds) || (ltb mostLines (m .lines) || ltb mostUnplaced (m .unplaced))
+
+-- ---- 01: "then kind by kind 4, 3, 5"
+-- entry j of the list is this id
+unfoldable pub isId : List ℕ → ℕ → ℕ → Bool
+isId ids id j = eqb (getD ids j 0) id
+
+-- the ids of the first n kinds
+unfoldable pub idsBelow : List Kind → ℕ → List ℕ
+idsBelow kinds zero = replicate mostKinds 0
+idsBelow kinds (suc n) = set (idsBelow kinds n) n (getD kinds n noKind .id)
+
+-- kind j has kind k's id
+unfoldable pub sameId : List Kind → ℕ → ℕ → Bool
+sameId kinds k j = eqb (getD kinds j noKind .id) (getD kinds k noKind .id)
+
+-- 01, number 5: "an id repeats an earlier kind's"
+unfoldable pub kindFaultIn : List Kind → ℕ → ℕ
+kindFaultIn kinds k = kindFault (getD kinds k noKind) (anyBelow (sameId kinds k) k)
+
+-- ---- 01: "2 for the total"
+unfoldable pub quantityOf : List Kind → ℕ → ℕ
+quantityOf kinds k = getD kinds k noKind .quantity
+
+-- ---- 01: "3 line by line"
+unfoldable pub lineFault : Line → ℕ
+lineFault l = when (not (isPosition (x (l .at))) || (not (isPosition (y (l .at))) || not (isPosition (z (l .at))))) 3
+
+unfoldable pub lineFaultIn : List Line → ℕ → ℕ
+unfolding lineFault
+lineFaultIn lines i = lineFault (getD lines i noLine)
+
+-- ---- 01: "2 for kinds, lines, unplaced ..; 3 for the container block in field order; then kind by kind 4, 3, 5; 2 for the total; 3 line by line"
+unfoldable pub sheetRefusal : Sheet → ℕ
+unfolding orElse
+sheetRefusal s =
+    orElse (when (overCount (s .many)) 2)
+    (orElse (when (containerFault (s .container)) 3)
+    (orElse (firstBelow (kindFaultIn (s .kinds)) (s .many .kinds))
+    (orElse (when (ltb mostBoxes (sumBelow (quantityOf (s .kinds)) (s .many .kinds))) 2)
+    (firstBelow (lineFaultIn (s .lines)) (s .many .lines)))))

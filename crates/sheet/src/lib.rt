@@ -1,0 +1,149 @@
+// A load sheet as a value: container, kinds, placement lines and unplaced ids, and the refusal that it gets, if any.
+// An order is a sheet too; whoever plans one tests its lines and unplaced ids and then leaves them aside.
+ghost use mathlib.Core.Path.{_≡_};
+ghost use Prim.Native.Nat.{_≤_, _<_};
+ghost use lib.ListN.{getD};
+ghost use Rattle.domain.specs.Bounds.{mostKinds, mostLines};
+ghost use Rattle.domain.specs.Refusals.{firstBelow, sumBelow, anyBelow};
+ghost use Rattle.sheet.specs.Sheets.{overCount, isId, idsBelow, quantityOf, kindFaultIn, lineFault, lineFaultIn, sheetRefusal};
+use measures::Container;
+use measures::Kind;
+
+// A placement line: instance `instance` of the kind `id`, turned to `orientation`, in case `bin`, its near corner at `at`.
+pub struct Line {
+    pub id: u32,
+    pub instance: u32,
+    pub orientation: u32,
+    pub bin: u32,
+    pub at: [f64; 3],
+}
+
+pub struct Counts {
+    pub kinds: usize,
+    pub lines: usize,
+    pub unplaced: usize,
+}
+
+// The first `many.kinds` of the kinds count, and so for the lines and the unplaced ids.
+pub struct Sheet {
+    pub many: Counts,
+    pub container: Container,
+    pub kinds: [Kind; domain::MOST_KINDS],
+    pub lines: [Line; domain::MOST_LINES],
+    pub unplaced: [u32; domain::MOST_UNPLACED],
+}
+
+fn over_count(many: Counts) -> bool
+    ensures { λ r. ⌜ r ≡ overCount many ⌝ }
+{
+    (many.kinds > domain::MOST_KINDS)
+        | ((many.lines > domain::MOST_LINES) | (many.unplaced > domain::MOST_UNPLACED))
+}
+
+// Whether the id is among the first n.
+fn is_among(ids: &[u32; domain::MOST_KINDS], n: usize, id: u32) -> bool
+    requires { ⌜ n ≤ mostKinds ⌝ }
+    ensures { λ r. ⌜ r ≡ anyBelow (isId (now (ids .entry)) id) n ⌝ }
+{
+    let mut found = false;
+    let mut j = 0;
+    while j < n {
+        found = found | (ids[j] == id);
+        j += 1;
+    }
+    found
+}
+
+// The ids of the first n kinds, in order.
+fn kind_ids(kinds: [Kind; domain::MOST_KINDS], n: usize) -> [u32; domain::MOST_KINDS]
+    requires { ⌜ n ≤ mostKinds ⌝ }
+    ensures { λ r. ⌜ r ≡ idsBelow kinds n ⌝ }
+{
+    let mut ids = [0u32; domain::MOST_KINDS];
+    let mut k = 0;
+    while k < n {
+        let kind = kinds[k];
+        ids[k] = kind.id;
+        k += 1;
+    }
+    ids
+}
+
+// The first refusal that a kind gives, kind by kind.
+fn kinds_fault(kinds: [Kind; domain::MOST_KINDS], n: usize) -> u32
+    requires { ⌜ n ≤ mostKinds ⌝ }
+    ensures { λ r. ⌜ r ≡ firstBelow (kindFaultIn kinds) n ⌝ }
+{
+    let ids = kind_ids(kinds, n);
+    let mut r = 0;
+    let mut k = 0;
+    while k < n {
+        let kind = kinds[k];
+        r = domain::or_else(r, measures::kind_fault(kind, is_among(&ids, k, kind.id)));
+        k += 1;
+    }
+    r
+}
+
+fn wide(x: u32) -> u64
+    ensures { λ r. ⌜ (r ≡ x) × (r < 4294967296) ⌝ }
+{
+    x as u64
+}
+
+// The quantity over all kinds. It cannot wrap: at most 64 numbers of 32 bits.
+fn total_quantity(kinds: [Kind; domain::MOST_KINDS], n: usize) -> u64
+    requires { ⌜ n ≤ mostKinds ⌝ }
+    ensures { λ r. ⌜ r ≡ sumBelow (quantityOf kinds) n ⌝ }
+{
+    let mut t = 0;
+    let mut k = 0;
+    while k < n {
+        let kind = kinds[k];
+        t += wide(kind.quantity);
+        k += 1;
+    }
+    t
+}
+
+fn line_fault(l: Line) -> u32
+    ensures { λ r. ⌜ r ≡ lineFault l ⌝ }
+{
+    let at = l.at;
+    let bad = !domain::is_position(at[0])
+        | (!domain::is_position(at[1]) | !domain::is_position(at[2]));
+    domain::given(bad, 3)
+}
+
+fn lines_fault(lines: [Line; domain::MOST_LINES], n: usize) -> u32
+    requires { ⌜ n ≤ mostLines ⌝ }
+    ensures { λ r. ⌜ r ≡ firstBelow (lineFaultIn lines) n ⌝ }
+{
+    let mut r = 0;
+    let mut i = 0;
+    while i < n {
+        let l = lines[i];
+        r = domain::or_else(r, line_fault(l));
+        i += 1;
+    }
+    r
+}
+
+// The refusal that a sheet gets, 0 for none, in the stated order from 2 on.
+pub fn sheet_refusal(s: Sheet) -> u32
+    ensures { λ r. ⌜ r ≡ sheetRefusal s ⌝ }
+{
+    let many = s.many;
+    let kinds = s.kinds;
+    let lines = s.lines;
+    let n = many.kinds;
+    let m = many.lines;
+    if over_count(many) {
+        return 2;
+    }
+    let block = domain::given(measures::container_fault(s.container), 3);
+    let kind = kinds_fault(kinds, n);
+    let total = domain::given(total_quantity(kinds, n) > domain::MOST_BOXES as u64, 2);
+    let line = lines_fault(lines, m);
+    domain::or_else(block, domain::or_else(kind, domain::or_else(total, line)))
+}
