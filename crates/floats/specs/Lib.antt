@@ -1,2 +1,7 @@
--- What the crates above say of binary64.
+-- What the crates above say of binary64, and the laws of it that they share.
 pub mod Ops
+pub mod Compare
+pub mod Order
+pub mod Unique
+pub mod Sums
+pub mod Larger

@@ -33,7 +33,8 @@ pub struct Sheet {
     pub unplaced: [u32; domain::MOST_UNPLACED],
 }
 
-fn over_count(many: Counts) -> bool
+// Whether a count is over its bound.
+pub fn over_count(many: Counts) -> bool
     ensures { λ r. ⌜ r ≡ overCount many ⌝ }
 {
     (many.kinds > domain::MOST_KINDS)

@@ -1,0 +1,17 @@
+-- `load_file::le::f64_at` meets its contract: the float of the bits there.
+use Rattle.load_file.specs.Reading.{f64At}
+use borrow.Author.Needs.{needs}
+use Rattle.load_file.proofs.le.f64_at.Statement.{statement}
+use Rattle.load_file.proofs.le.f64_at.Tie as tie
+
+returns : tie.Need-returns
+unfolding f64At
+returns c = cc
+
+pub f64-at-spec : {M : Type 1} → statement M
+f64-at-spec =
+    tie.close
+    (tie.spec
+    (λ c κs. search needs)
+    (λ c κs. search needs)
+    returns)

@@ -1,0 +1,22 @@
+-- `load_file::le::u64_at` meets its contract: two halves.
+use Rattle.load_file.specs.Bytes.{u64At}
+use borrow.Author.Needs.{needs}
+use Rattle.load_file.proofs.le.u64_at.Statement.{statement}
+use Rattle.load_file.proofs.le.u64_at.Tie as tie
+
+returns : tie.Need-returns
+unfolding u64At
+returns c = cc
+
+pub u64-at-spec : {M : Type 1} → statement M
+u64-at-spec =
+    tie.close
+    (tie.spec
+    (λ c κs. search needs)
+    (λ c κs. search needs)
+    (λ c. search needs)
+    (λ c κs. search needs)
+    (λ c κs. search needs)
+    (λ c. search needs)
+    (λ c. search needs)
+    returns)

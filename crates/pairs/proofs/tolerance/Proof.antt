@@ -1,0 +1,13 @@
+-- `pairs::tolerance` meets its contract: the calls are the definition's own.
+use Rattle.pairs.specs.Tolerance.{toleranceOf}
+use borrow.Author.Needs.{needs}
+use Rattle.pairs.proofs.tolerance.Statement.{statement}
+use Rattle.pairs.proofs.tolerance.Tie as tie
+
+returns : tie.Need-returns
+unfolding toleranceOf
+returns c = cc
+
+pub tolerance-spec : {M : Type 1} → statement M
+tolerance-spec =
+    tie.close (tie.spec (λ c. search needs) (λ c κs. search needs) (λ c κs. search needs) (λ c. search needs) (λ c κs. search needs) (λ c κs. search needs) (λ c. search needs) (λ c κs. search needs) (λ c κs. search needs) returns)
