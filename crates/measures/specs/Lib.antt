@@ -2,3 +2,4 @@
 pub mod Orders
 pub mod Volume
 pub mod Faults
+pub mod Examples
