@@ -5,3 +5,12 @@ pub mod Shaped
 pub mod Reading
 pub mod Writing
 pub mod Stores
+pub mod Parts
+pub mod Sections
+pub mod Numbers
+pub mod ReadWrite
+pub mod Layout
+pub mod Typed
+pub mod Tidy
+pub mod WriteRead
+pub mod RoundTrip

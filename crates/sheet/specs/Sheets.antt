@@ -1,8 +1,8 @@
 -- What a sheet holds, and the refusal that it gets: 01's table from 2 on, in 01's order.
 use Prim.Native.Nat.{ℕ, zero, suc}
-use mathlib.Core.Bool.{Bool, not, _||_}
+use mathlib.Core.Bool.{Bool, not, _&&_, _||_}
 use mathlib.Core.List.{List, []}
-use lib.Dec.{eqb, ltb}
+use lib.Dec.{eqb, ltb, leb}
 use lib.ListN.{getD, set, replicate}
 use lib.Ieee.{nan}
 use Rattle.floats.specs.Ops.{x, y, z}
@@ -41,6 +41,10 @@ overCount m = ltb mostKinds (m .kinds) || (ltb mostLines (m .lines) || ltb mostU
 -- entry j of the list is this id
 unfoldable pub isId : List ℕ → ℕ → ℕ → Bool
 isId ids id j = eqb (getD ids j 0) id
+
+-- the id is one of the first n, of a list for as many ids as there may be kinds
+unfoldable pub among : List ℕ → ℕ → ℕ → Bool
+among ids id n = leb n mostKinds && anyBelow (isId ids id) n
 
 -- the ids of the first n kinds
 unfoldable pub idsBelow : List Kind → ℕ → List ℕ

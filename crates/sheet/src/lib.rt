@@ -4,8 +4,8 @@ ghost use mathlib.Core.Path.{_≡_};
 ghost use Prim.Native.Nat.{_≤_, _<_};
 ghost use lib.ListN.{getD};
 ghost use Rattle.domain.specs.Bounds.{mostKinds, mostLines};
-ghost use Rattle.domain.specs.Refusals.{firstBelow, sumBelow, anyBelow};
-ghost use Rattle.sheet.specs.Sheets.{overCount, isId, idsBelow, quantityOf, kindFaultIn, lineFault, lineFaultIn, sheetRefusal};
+ghost use Rattle.domain.specs.Refusals.{firstBelow, sumBelow};
+ghost use Rattle.sheet.specs.Sheets.{overCount, among, idsBelow, quantityOf, kindFaultIn, lineFault, lineFaultIn, sheetRefusal};
 use measures::Container;
 use measures::Kind;
 
@@ -41,11 +41,13 @@ pub fn over_count(many: Counts) -> bool
         | ((many.lines > domain::MOST_LINES) | (many.unplaced > domain::MOST_UNPLACED))
 }
 
-// Whether the id is among the first n.
-fn is_among(ids: &[u32; domain::MOST_KINDS], n: usize, id: u32) -> bool
-    requires { ⌜ n ≤ mostKinds ⌝ }
-    ensures { λ r. ⌜ r ≡ anyBelow (isId (now (ids .entry)) id) n ⌝ }
+// Whether the id is among the first n; of more than there are, it is not.
+pub fn is_among(ids: &[u32; domain::MOST_KINDS], n: usize, id: u32) -> bool
+    ensures { λ r. ⌜ r ≡ among (now (ids .entry)) id n ⌝ }
 {
+    if domain::MOST_KINDS < n {
+        return false;
+    }
     let mut found = false;
     let mut j = 0;
     while j < n {

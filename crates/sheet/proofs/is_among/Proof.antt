@@ -3,8 +3,9 @@ use mathlib.Core.Path.{_≡_, refl}
 use Prim.Native.Nat.{_≤_, _-_}
 use native.Mathlib.Omega.{arith}
 use native.Mathlib.Numerals.{add-one}
+use borrow.Author.Tests.{lt-leb, le-leb}
 use Rattle.domain.specs.Refusals.{anyBelow}
-use Rattle.sheet.specs.Sheets.{isId}
+use Rattle.sheet.specs.Sheets.{isId, among}
 use Rattle.sheet.proofs.is_among.Statement.{statement}
 use Rattle.sheet.proofs.is_among.Tie as tie
 
@@ -23,7 +24,15 @@ unfolding anyBelow isId
 loop-again c = (omega arith, rw add-one (cc))
 
 returns : tie.Need-returns Inv-loop μ-loop
-returns c = let e : c .before .loop .j ≡ c .before .before .args .n = omega arith in rw e at (c .before .loop .inv .1)
+unfolding among
+returns c = rw (lt-leb _ _ (c .if1 .taken))
+
+returns-2 : tie.Need-returns-2 Inv-loop μ-loop
+unfolding among
+returns-2 c =
+    let s = c .before .before in
+    let e : c .before .loop .j ≡ s .before .args .n = omega arith in
+    rw (le-leb (s .before .args .n) 64 (s .if1 .left)) (rw e at (c .before .loop .inv .1))
 
 pub is-among-spec : {M : Type 1} → statement M
 is-among-spec =
@@ -31,10 +40,11 @@ is-among-spec =
     (tie.spec
     Inv-loop
     μ-loop
+    returns
     loop-holds
     (λ c. omega arith)
     (λ c. omega arith)
     (λ c. omega arith)
     (λ c. omega arith)
     loop-again
-    returns)
+    returns-2)

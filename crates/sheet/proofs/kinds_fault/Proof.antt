@@ -5,7 +5,7 @@ use native.Mathlib.Numerals.{add-one}
 use mathlib.Core.Path.{_≡_, refl, _∙_}
 use Rattle.domain.specs.Refusals.{firstBelow}
 use Rattle.sheet.specs.Sheets.{kindFaultIn}
-use Rattle.sheet.proofs.Ids.{repeats-same}
+use Rattle.sheet.specs.Ids.{repeats-same}
 use borrow.Author.Needs.{needs}
 use Rattle.sheet.proofs.kinds_fault.Statement.{statement}
 use Rattle.sheet.proofs.kinds_fault.Tie as tie

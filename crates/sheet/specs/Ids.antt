@@ -1,4 +1,4 @@
--- The ids that are gathered once are those of the kinds.
+-- Laws on the ids of a list of kinds: gathered once, they tell whether an id repeats an earlier kind's.
 use mathlib.Core.Path.{_≡_, refl, sym, _∙_}
 use mathlib.Core.Bool.{Bool, _||_}
 use mathlib.Core.Logic.{⊎-elim}
@@ -6,12 +6,13 @@ use mathlib.Core.List.{List}
 use Prim.Native.Nat.{ℕ, zero, suc, _<_, _≤_}
 use native.Mathlib.Nat.{eq-or-lt-of-le, le-of-suc-le-suc, not-suc-le-zero}
 use native.Mathlib.Omega.{arith}
+use borrow.Author.Tests.{le-leb}
 use lib.ListN.{length, getD, set, length-set, length-replicate}
 use lib.Seq.{getD-set-same, getD-set-other}
 use Rattle.domain.specs.Bounds.{mostKinds}
 use Rattle.domain.specs.Refusals.{anyBelow}
 use Rattle.measures.specs.declared.Kind.{Kind}
-use Rattle.sheet.specs.Sheets.{noKind, isId, sameId, idsBelow}
+use Rattle.sheet.specs.Sheets.{noKind, isId, sameId, among, idsBelow}
 
 -- two tests that agree below n agree on whether one holds there
 pub any-same : (p q : ℕ → Bool) (n : ℕ) → ((j : ℕ) → j < n → p j ≡ q j) → anyBelow p n ≡ anyBelow q n
@@ -33,7 +34,8 @@ id-at kinds (suc n) j few h =
     (λ l. getD-set-other (idsBelow kinds n) n j (getD kinds n noKind .id) 0 (λ e. omega arith) ∙ id-at kinds n j (omega arith) l)
     (eq-or-lt-of-le (le-of-suc-le-suc h))
 
-pub repeats-same : (kinds : List Kind) (n k : ℕ) → n ≤ mostKinds → k < n → anyBelow (isId (idsBelow kinds n) (getD kinds k noKind .id)) k ≡ anyBelow (sameId kinds k) k
-unfolding isId sameId
+pub repeats-same : (kinds : List Kind) (n k : ℕ) → n ≤ mostKinds → k ≤ n → among (idsBelow kinds n) (getD kinds k noKind .id) k ≡ anyBelow (sameId kinds k) k
+unfolding isId sameId among
 repeats-same kinds n k few h =
-    any-same (isId (idsBelow kinds n) (getD kinds k noKind .id)) (sameId kinds k) k (λ j l. rw (id-at kinds n j few (omega arith)))
+    rw (le-leb k mostKinds (omega arith))
+    (any-same (isId (idsBelow kinds n) (getD kinds k noKind .id)) (sameId kinds k) k (λ j l. rw (id-at kinds n j few (omega arith))))
