@@ -1,0 +1,2 @@
+-- How the programs print a float.
+pub mod Hex
