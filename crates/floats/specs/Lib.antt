@@ -5,3 +5,6 @@ pub mod Order
 pub mod Unique
 pub mod Sums
 pub mod Larger
+pub mod Weak
+pub mod Numbers
+pub mod Whole

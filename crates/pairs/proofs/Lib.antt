@@ -1,5 +1,4 @@
 -- What the proofs of this crate share, and the laws of the verdict.
 pub mod Shortcut
 pub mod Verdicts
-pub mod Symmetry
 pub mod Examples

@@ -1,6 +1,6 @@
 -- What a sheet holds, and the refusal that it gets: 01's table from 2 on, in 01's order.
 use Prim.Native.Nat.{ℕ, zero, suc}
-use mathlib.Core.Bool.{Bool, not, _&&_, _||_}
+use mathlib.Core.Bool.{Bool, not, _&&_, _||_, cond}
 use mathlib.Core.List.{List, []}
 use lib.Dec.{eqb, ltb, leb}
 use lib.ListN.{getD, set, replicate}
@@ -62,6 +62,10 @@ kindFaultIn kinds k = kindFault (getD kinds k noKind) (anyBelow (sameId kinds k)
 -- ---- 01: "2 for the total"
 unfoldable pub quantityOf : List Kind → ℕ → ℕ
 quantityOf kinds k = getD kinds k noKind .quantity
+
+-- the boxes of m kinds, and 0 for more kinds than there can be
+unfoldable pub boxesIn : List Kind → ℕ → ℕ
+boxesIn kinds m = cond (ltb mostKinds m) 0 (sumBelow (quantityOf kinds) m)
 
 -- ---- 01: "3 line by line"
 unfoldable pub lineFault : Line → ℕ

@@ -1,42 +1,19 @@
 -- The verdict on two boxes is the same, and its distance the same bit by bit, whichever of the two comes first.
 use mathlib.Core.Path.{_≡_, sym, ap, _∙_}
 use mathlib.Core.Logic.{_⊎_, inl, inr}
-use mathlib.Core.Bool.{Bool, true, false, not, _&&_, Bool·beq, cond}
+use mathlib.Core.Bool.{Bool, cond}
 use mathlib.Core.List.{List}
-use Prim.Native.Nat.{ℕ, _+_, _-_, _*_, _<_}
-use lib.Dec.{T, ltb, lit<}
+use Prim.Native.Nat.{ℕ, _<_}
+use lib.Dec.{lit<}
 use lib.ListN.{getD}
-use lib.Ieee.{Float, nan, inf, fin, Format, binary64, up, down, round, sum, add, sub, neg, lt, isNan}
-use lib.Ieee.Scale.{finite}
+use lib.Ieee.{Float, nan, binary64, neg, lt}
 use lib.Ieee.Fits.{sub-fits}
 use Rattle.floats.specs.Ops.{_⊖_, _⊗_, none, larger, x, y, z}
-use Rattle.floats.specs.Order.{round-signed, signed-number}
+use Rattle.floats.specs.Numbers.{sub-number}
 use Rattle.floats.specs.Larger.{isZero, larger-turned, zero-lt, none-lt-zero}
 use Rattle.pairs.specs.declared.Extent.{Extent}
 use Rattle.pairs.specs.Pair.{gap, gaps, overlaps, squared, distanceOf, verdictAt, verdictOf}
 use Rattle.pairs.specs.Solid.{Solid}
-
--- ---- a finite number less a number is a number
-
-round-number : (f : Format) (s : Bool) (a c : ℕ) → T (not (isNan (round f s a c)))
-round-number f s a c = signed-number s (round f s a c) (round-signed f s a c)
-
-cond-number : (b : Bool) (v w : Float) → T (not (isNan v)) → T (not (isNan w)) → T (not (isNan (cond b v w)))
-cond-number true v w p q = p
-cond-number false v w p q = q
-
-sum-number : (f : Format) (s : Bool) (a : ℕ) (t : Bool) (b c : ℕ) → T (not (isNan (sum f s a t b c)))
-unfolding sum
-sum-number f s a t b c =
-    cond-number (Bool·beq s t) (round f s (a + b) c) (cond (ltb a b) (round f t (b - a) c) (round f (s && ltb b a) (a - b) c)) (round-number f s (a + b) c)
-    (cond-number (ltb a b) (round f t (b - a) c) (round f (s && ltb b a) (a - b) c) (round-number f t (b - a) c) (round-number f (s && ltb b a) (a - b) c))
-
-sub-number : (f : Format) (v w : Float) → T (finite v) → T (not (isNan w)) → T (not (isNan (sub f v w)))
-sub-number f nan w p q = absurd p
-sub-number f (inf s) w p q = absurd p
-sub-number f (fin s m e) nan p q = absurd (unfold isNan in q)
-sub-number f (fin s m e) (inf t) p q = unfold sub neg isNan in tt
-sub-number f (fin s m e) (fin t n d) p q = unfold sub neg add in sum-number f s (m * up e * down d) (not t) (n * up d * down e) (down e * down d)
 
 -- ---- gaps that are the same, or zeros of either sign, count alike
 

@@ -1,0 +1,1 @@
+-- This program's functions have no contract but to be safe and to end.

@@ -1,0 +1,38 @@
+-- The three answers of `check_packing`: a refused sheet, no room, and the findings listed.
+use mathlib.Core.Path.{_≡_, refl, _∙_}
+use mathlib.Core.Bool.{false, true}
+use mathlib.Core.List.{List, _++_}
+use Prim.Native.Nat.{ℕ, zero, suc, _+_, _/_, _<_, _≤_}
+use native.Mathlib.Nat.{zero-add}
+use native.Mathlib.Omega.{arith}
+use borrow.Author.Tests.{lt-ltb, le-ltb, ne-eqb}
+use lib.Dec.{eqb, ltb}
+use lib.ListN.{length, drop}
+use lib.Seq.{sets-eq}
+use Rattle.domain.specs.Refusals.{orElse}
+use Rattle.sheet.specs.declared.Sheet.{Sheet}
+use Rattle.sheet.specs.Sheets.{sheetRefusal}
+use Rattle.checker.specs.declared.Checked.{Checked}
+use Rattle.checker.specs.Wrote.{Wrote}
+use Rattle.checker.specs.Findings.{findings}
+use Rattle.checker.specs.Check.{checkRefusal, countOf, checkedOf, cellsOf}
+
+module _ (s : Sheet) (o : List ℕ) where
+  pub answer-refused : (r : ℕ) → r ≡ sheetRefusal s → (r ≡ 0 → ⊥) → (record { refused = r; count = 0 } ≡ checkedOf s o) × (o ≡ cellsOf s o)
+  unfolding checkedOf cellsOf checkRefusal countOf orElse
+  answer-refused zero e n = absurd (n refl)
+  answer-refused (suc r) e n = rw (← e, ne-eqb (suc r) 0 n) (refl, refl)
+
+  pub answer-room : {x x′ : List ℕ} {n : ℕ} → sheetRefusal s ≡ 0 → Wrote x 0 (findings s) n x′ → length o < n
+      → (record { refused = 6; count = n / 5 } ≡ checkedOf s o) × (o ≡ cellsOf s o)
+  unfolding checkedOf cellsOf checkRefusal countOf orElse
+  answer-room {x} {x′} {n} e w h =
+      let k : n ≡ length (findings s) = omega (arith, w .next) in
+      rw (e, lt-ltb (length o) (length (findings s)) (omega arith), k) (refl, refl)
+
+  pub answer-listed : {x x′ o′ : List ℕ} {n r : ℕ} → sheetRefusal s ≡ 0 → Wrote x 0 (findings s) n x′ → n ≤ length o → Wrote o 0 (findings s) r o′
+      → (record { refused = 0; count = n / 5 } ≡ checkedOf s o) × (o′ ≡ cellsOf s o)
+  unfolding checkedOf cellsOf checkRefusal countOf orElse
+  answer-listed {x} {x′} {o′} {n} {r} e w h v =
+      let k : n ≡ length (findings s) = omega (arith, w .next) in
+      rw (e, le-ltb (length o) (length (findings s)) (omega arith), k) (refl, v .cells ∙ sets-eq (findings s) o 0 (omega arith) ∙ rw zero-add)

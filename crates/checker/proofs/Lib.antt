@@ -1,0 +1,11 @@
+-- What the proofs of this crate share, and worked examples.
+pub mod Writes
+pub mod Held
+pub mod Examples
+pub mod Boxes
+pub mod Apart
+pub mod ById
+pub mod Packed
+pub mod Gathered
+pub mod Same
+pub mod Answers

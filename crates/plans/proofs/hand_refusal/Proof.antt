@@ -1,0 +1,12 @@
+-- `plans::hand_refusal` meets its contract, by what its callees ensure.
+use borrow.Author.Needs.{needs}
+use Rattle.plans.specs.Hand.{handRefusal}
+use Rattle.plans.proofs.hand_refusal.Statement.{statement}
+use Rattle.plans.proofs.hand_refusal.Tie as tie
+
+returns : tie.Need-returns
+unfolding handRefusal
+returns c = rw (c .or-else2 .ensures, c .before .or-else .ensures, c .before .before .given2 .ensures, c .before .before .before .given .ensures)
+
+pub hand-refusal-spec : {M : Type 1} → statement M
+hand-refusal-spec = tie.close (tie.spec (λ c κs. search needs) (λ c κs. search needs) (λ c κs. search needs) (λ c κs. search needs) returns)

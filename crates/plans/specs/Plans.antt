@@ -1,0 +1,50 @@
+-- A plan from the lines that were placed.
+use mathlib.Core.Bool.{Bool, true, false, cond}
+use mathlib.Core.List.{List, [], _∷_}
+use Prim.Native.Nat.{ℕ}
+use lib.Dec.{eqb}
+use lib.ListN.{replicate}
+use lib.Ieee.{Float}
+use Rattle.floats.specs.Ops.{none}
+use Rattle.domain.specs.Bounds.{mostKinds, mostLines}
+use Rattle.measures.specs.declared.Kind.{Kind}
+use Rattle.sheet.specs.declared.Line.{Line}
+use Rattle.unplaced.specs.declared.Left.{Left}
+use Rattle.unplaced.specs.Short.{namesOf}
+use Rattle.unplaced.specs.Left.{leftOf}
+use Rattle.plans.specs.declared.Plan.{Plan}
+
+-- what a line that holds no box has in it
+abbrev pub blankLine : Line
+blankLine = record { id = 0; instance = 0; orientation = 0; bin = 0; at = none ∷ none ∷ none ∷ [] }
+
+-- nothing but the refusal
+unfoldable pub refusedPlan : ℕ → Plan
+refusedPlan r =
+    record {
+      refused = r;
+      considered = 0;
+      utilization = none;
+      placed = 0;
+      unplaced = 0;
+      lines = replicate mostLines blankLine;
+      ids = replicate mostKinds 0;
+    }
+
+-- the unplaced list that n of the lines leave
+abbrev pub leftBy : List Kind → ℕ → List Line → ℕ → Left
+leftBy kinds m lines n = leftOf kinds m (namesOf lines mostLines .ids) (namesOf lines mostLines .instances) n
+
+unfoldable pub plannedOf : List Kind → ℕ → List Line → ℕ → ℕ → Float → Plan
+plannedOf kinds m lines n considered utilization =
+    cond (eqb (leftBy kinds m lines n .refused) 0)
+    (record {
+      refused = 0;
+      considered = considered;
+      utilization = utilization;
+      placed = n;
+      unplaced = leftBy kinds m lines n .count;
+      lines = lines;
+      ids = leftBy kinds m lines n .ids;
+    })
+    (refusedPlan (leftBy kinds m lines n .refused))

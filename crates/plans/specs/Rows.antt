@@ -1,0 +1,49 @@
+-- Rows of words written one after the other into lent cells.
+use mathlib.Core.Path.{_≡_, refl, _∙_}
+use mathlib.Core.List.{List, [], _∷_, _++_}
+use Prim.Native.Nat.{ℕ, zero, suc, _+_, _*_, _≤_}
+use native.Mathlib.Nat.{suc-mul, zero-mul}
+use native.Mathlib.Omega.{arith}
+use lib.ListN.{length, take, drop, length-append, length-drop}
+use lib.Seq.{sets, sets-eq, take-at, drop-append-add, drop-drop}
+
+-- rows 0, 1, .. below n, one after the other
+unfoldable pub allBelow : (ℕ → List ℕ) → ℕ → List ℕ
+allBelow row zero = []
+allBelow row (suc n) = allBelow row n ++ row n
+
+-- 01: "lent cells past its results hold their old values". A row has w words.
+unfoldable pub wrote : (ℕ → List ℕ) → ℕ → ℕ → List ℕ → List ℕ
+wrote row w n o = allBelow row n ++ drop (n * w) o
+
+pub wrote-none : (row : ℕ → List ℕ) (w : ℕ) (o : List ℕ) → wrote row w 0 o ≡ o
+unfolding wrote allBelow
+wrote-none row w o = rw (zero-mul w)
+
+module _ (row : ℕ → List ℕ) (w : ℕ) (long : (i : ℕ) → length (row i) ≡ w) where
+  all-length : (n : ℕ) → length (allBelow row n) ≡ n * w
+  unfolding allBelow
+  all-length zero = rw (zero-mul w)
+  all-length (suc n) =
+      let h = all-length n in
+      let l = long n in
+      let q : suc n * w ≡ n * w + w = suc-mul n w in
+      simp length-append (omega arith)
+
+  pub wrote-length : (n : ℕ) (o : List ℕ) → n * w ≤ length o → length (wrote row w n o) ≡ length o
+  unfolding wrote
+  wrote-length n o h = let e = all-length n in simp (length-append, length-drop) (omega arith)
+
+  -- what stands behind a list of k words, from one row on
+  behind : (a o : List ℕ) (k : ℕ) → length a ≡ k → drop (k + w) (a ++ drop k o) ≡ drop (k + w) o
+  behind a o k e = (rw e at (drop-append-add a (drop k o) w)) ∙ drop-drop w k o
+
+  -- one row more, stored behind the others
+  pub wrote-more : (n : ℕ) (o : List ℕ) → suc n * w ≤ length o → sets (wrote row w n o) (n * w) (row n) ≡ wrote row w (suc n) o
+  unfolding wrote allBelow
+  wrote-more n o h =
+      let q : suc n * w ≡ n * w + w = suc-mul n w in
+      let l = wrote-length n o (omega arith) in
+      let r = long n in
+      sets-eq (row n) (wrote row w n o) (n * w) (omega arith)
+      ∙ rw (q, r, take-at (allBelow row n) (drop (n * w) o) (n * w) (all-length n), behind (allBelow row n) o (n * w) (all-length n))

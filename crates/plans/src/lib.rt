@@ -1,0 +1,185 @@
+// A finished plan, which both placers give: the lines placed, how many boxes were considered, the utilization and the
+// unplaced list. It is made from lines by value, and handed out into words that the caller lends.
+ghost use mathlib.Core.Path.{_≡_};
+ghost use Prim.Native.Nat.{_+_, _*_, _≤_};
+ghost use lib.ListN.{length};
+ghost use lib.Seq.{sets};
+ghost use Rattle.domain.specs.Bounds.{mostLines};
+ghost use Rattle.plans.specs.Plans.{refusedPlan, plannedOf};
+ghost use Rattle.plans.specs.Boxes.{smaller};
+ghost use Rattle.plans.specs.Rows.{wrote};
+ghost use Rattle.plans.specs.Hand.{wordsOf, lineWords, handRefusal, refusedPack, handedOf, slotsOf};
+use measures::Kind;
+use sheet::Line;
+
+// The first `placed` lines and the first `unplaced` ids. A refused plan holds nothing but its refusal.
+pub struct Plan {
+    pub refused: u32,
+    pub considered: u64,
+    pub utilization: f64,
+    pub placed: usize,
+    pub unplaced: usize,
+    pub lines: [Line; domain::MOST_LINES],
+    pub ids: [u32; domain::MOST_KINDS],
+}
+
+// The same with the lines in lent words. `needed` is how many lines there are room must be lent for.
+pub struct Packed {
+    pub refused: u32,
+    pub needed: usize,
+    pub placed: usize,
+    pub considered: u64,
+    pub utilization: f64,
+    pub unplaced: usize,
+    pub ids: [u32; domain::MOST_KINDS],
+}
+
+// Words a line takes: id, instance, orientation, and the bits of x, y and z.
+pub const WORDS: usize = 6;
+
+// How many boxes are considered: the smaller of two numbers.
+pub fn smaller(a: u64, b: u64) -> u64
+    ensures { λ r. ⌜ r ≡ smaller a b ⌝ }
+{
+    if a < b {
+        return a;
+    }
+    b
+}
+
+// A plan that is refused.
+pub fn refused_plan(refused: u32) -> Plan
+    ensures { λ r. ⌜ r ≡ refusedPlan refused ⌝ }
+{
+    let none = Line {
+        id: 0,
+        instance: 0,
+        orientation: 0,
+        bin: 0,
+        at: [0.0, 0.0, 0.0],
+    };
+    let lines = [none; domain::MOST_LINES];
+    let ids = [0u32; domain::MOST_KINDS];
+    Plan {
+        refused,
+        considered: 0,
+        utilization: 0.0,
+        placed: 0,
+        unplaced: 0,
+        lines,
+        ids,
+    }
+}
+
+// The plan of m kinds whose first n lines are placed, with the unplaced list made from them. Refused by 2 for a count
+// over its bound.
+pub fn planned(
+    kinds: [Kind; domain::MOST_KINDS],
+    m: usize,
+    lines: [Line; domain::MOST_LINES],
+    n: usize,
+    considered: u64,
+    utilization: f64,
+) -> Plan
+    ensures { λ r. ⌜ r ≡ plannedOf kinds m lines n considered utilization ⌝ }
+{
+    let names = unplaced::names_of(lines);
+    let names_ids = names.ids;
+    let instances = names.instances;
+    let left = unplaced::left_over(kinds, m, &names_ids, &instances, n);
+    if left.refused != 0 {
+        return refused_plan(left.refused);
+    }
+    let ids = left.ids;
+    Plan {
+        refused: 0,
+        considered,
+        utilization,
+        placed: n,
+        unplaced: left.count,
+        lines,
+        ids,
+    }
+}
+
+// One line's words, from `at` on.
+fn put_line(out: &mut [u64], at: usize, l: Line)
+    requires { ⌜ at + 6 ≤ length (now out) ⌝ }
+    ensures { λ _. ⌜ now (out .exit) ≡ sets (now (out .entry)) at (wordsOf l) ⌝ }
+{
+    let p = l.at;
+    let x = floats::bits_of(p[0]);
+    let y = floats::bits_of(p[1]);
+    let z = floats::bits_of(p[2]);
+    out[at] = l.id as u64;
+    out[at + 1] = l.instance as u64;
+    out[at + 2] = l.orientation as u64;
+    out[at + 3] = x;
+    out[at + 4] = y;
+    out[at + 5] = z;
+}
+
+// The words of the first n lines, one line after the other. The words past them stay.
+fn put_lines(out: &mut [u64], lines: [Line; domain::MOST_LINES], n: usize)
+    requires { ⌜ (n ≤ mostLines) × (n * 6 ≤ length (now out)) ⌝ }
+    ensures { λ _. ⌜ now (out .exit) ≡ wrote (lineWords lines) 6 n (now (out .entry)) ⌝ }
+{
+    let mut i = 0;
+    while i < n {
+        let l = lines[i];
+        put_line(&mut out[..], i * WORDS, l);
+        i += 1;
+    }
+}
+
+// The plan's own refusal, 2 for more lines than there can be, 6 where the words are fewer than the lines need.
+fn hand_refusal(refused: u32, placed: usize, room: usize) -> u32
+    ensures { λ r. ⌜ r ≡ handRefusal refused placed room ⌝ }
+{
+    let over = domain::given(placed > domain::MOST_LINES, 2);
+    let short = domain::given(room / WORDS < placed, 6);
+    domain::or_else(refused, domain::or_else(over, short))
+}
+
+// A refusal, for 6 with the number of lines that need room.
+fn refused_pack(refused: u32, placed: usize) -> Packed
+    ensures { λ r. ⌜ r ≡ refusedPack refused placed ⌝ }
+{
+    let ids = [0u32; domain::MOST_KINDS];
+    let mut p = Packed {
+        refused,
+        needed: 0,
+        placed: 0,
+        considered: 0,
+        utilization: 0.0,
+        unplaced: 0,
+        ids,
+    };
+    if refused == 6 {
+        p.needed = placed;
+        return p;
+    }
+    p
+}
+
+// Hands a plan out: the lines into lent words, six to a line, the rest as the answer. A refusal changes no word.
+pub fn hand_out(plan: Plan, slots: &mut [u64]) -> Packed
+    ensures { λ r. ⌜ (r ≡ handedOf plan (length (now (slots .entry)))) × (now (slots .exit) ≡ slotsOf plan (now (slots .entry))) ⌝ }
+{
+    let refused = hand_refusal(plan.refused, plan.placed, slots.len());
+    if refused != 0 {
+        return refused_pack(refused, plan.placed);
+    }
+    let lines = plan.lines;
+    let ids = plan.ids;
+    put_lines(slots, lines, plan.placed);
+    Packed {
+        refused: 0,
+        needed: plan.placed,
+        placed: plan.placed,
+        considered: plan.considered,
+        utilization: plan.utilization,
+        unplaced: plan.unplaced,
+        ids,
+    }
+}

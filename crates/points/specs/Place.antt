@@ -1,0 +1,114 @@
+-- The place call, and a fresh state.
+use mathlib.Core.Path.{_≡_}
+use mathlib.Core.Bool.{Bool, true, false, cond, _||_}
+use mathlib.Core.List.{List, [], _∷_}
+use Prim.Native.Nat.{ℕ, _+_, _*_, _≤_, _<_}
+use native.Mathlib.Omega.{arith}
+use borrow.Author.Tests.{ltb-false, eqb-false}
+use lib.Dec.{ltb, eqb}
+use lib.ListN.{replicate}
+use lib.Ieee.{Float}
+use Rattle.floats.specs.Ops.{none}
+use Rattle.domain.specs.Bounds.{mostBoxes}
+use Rattle.domain.specs.Refusals.{when, orElse}
+use Rattle.domain.specs.Laws.{or-left, or-right, or-else-first, or-else-second, when-none}
+use Rattle.measures.specs.declared.Kind.{Kind}
+use Rattle.measures.specs.declared.Container.{Container}
+use Rattle.measures.specs.Orders.{lengthsIn}
+use Rattle.measures.specs.Faults.{kindFault, containerFault}
+use Rattle.points.specs.declared.Label.{Label}
+use Rattle.points.specs.declared.Choice.{Choice}
+use Rattle.points.specs.declared.ExtremePointSet.{ExtremePointSet}
+use Rattle.points.specs.declared.Fresh.{Fresh}
+use Rattle.points.specs.declared.Tried.{Tried}
+use Rattle.points.specs.declared.Answer.{Answer}
+use Rattle.points.specs.declared.Answer.the-variants.{Stands, NoRoom, Refused}
+use Rattle.points.specs.Triples.{cells, put3}
+use Rattle.points.specs.Choose.{pointAt, bestOf}
+use Rattle.points.specs.Grow.{settled}
+
+-- what 01's words are for each answer: the box stands; it doesn't fit, which is no refusal; the refusal's number
+abbrev pub numberOf : Answer → ℕ
+numberOf Stands = 0
+numberOf NoRoom = 0
+numberOf (Refused n) = n
+
+abbrev pub stood : Answer → Bool
+stood Stands = true
+stood NoRoom = false
+stood (Refused n) = false
+
+-- ---- a fresh state
+
+abbrev pub nowhere : List Float
+nowhere = none ∷ none ∷ none ∷ []
+
+abbrev pub blank : Label
+blank = record { id = 0; instance = 0; mass = none; massed = 0 }
+
+-- 01: "The first point is (margin, margin, margin)." Of a refused container there is none, and nothing fits.
+unfoldable pub startOf : Container → Bool → ExtremePointSet
+startOf c fault =
+    record {
+      container = c;
+      live = cond fault 0 1;
+      held = 0;
+      points = put3 (replicate cells none) 0 (c .margin ∷ c .margin ∷ c .margin ∷ []);
+      boxes = replicate cells none;
+      labels = replicate mostBoxes blank;
+    }
+
+-- 01: "3 for the container block"
+abbrev pub freshOf : Container → Fresh
+freshOf c = record { refused = when (containerFault c) 3; set = startOf c (containerFault c) }
+
+-- ---- the place call
+
+-- 01: "A state handed in with counts over these bounds gets 2"
+unfoldable pub overCounts : ℕ → ℕ → Bool
+overCounts live held = ltb mostBoxes held || ltb (1 + 2 * held) live
+
+-- 01: 2 for the state; at the kind 4, 3; then 7, "a place call on a placer that already holds 256 boxes"
+unfoldable pub refusalOf : ℕ → ℕ → Kind → ℕ
+refusalOf live held kind = orElse (when (overCounts live held) 2) (orElse (kindFault kind false) (when (eqb held mostBoxes) 7))
+
+abbrev pub labelOf : Kind → ℕ → Label
+labelOf kind instance = record { id = kind .id; instance = instance; mass = kind .mass; massed = kind .massed }
+
+-- by the choice of a point: the box stands there, or the state stays
+unfoldable pub placedBy : ExtremePointSet → Label → List Float → Choice → Tried
+placedBy s label size c =
+    cond (c .found)
+    (record { answer = Stands; at = pointAt s (c .index); next = settled s (c .index) label size })
+    (record { answer = NoRoom; at = nowhere; next = s })
+
+-- a place call: for every state, kind, instance and orientation
+unfoldable pub triedOf : ExtremePointSet → Kind → ℕ → ℕ → Tried
+triedOf s kind instance orientation =
+    let n = refusalOf (s .live) (s .held) kind in
+    let size = lengthsIn kind orientation in
+    cond (eqb n 0) (placedBy s (labelOf kind instance) size (bestOf s size)) (record { answer = Refused n; at = nowhere; next = s })
+
+-- ---- laws: what is known of a call that is not refused
+
+pub record Ready (live held : ℕ) (kind : Kind) : Type 0 where
+  pub few : live ≤ 1 + 2 * held
+  pub room : held < mostBoxes
+  pub kind-right : kindFault kind false ≡ 0
+
+pub within-counts : (live held : ℕ) → overCounts live held ≡ false → (held ≤ mostBoxes) × (live ≤ 1 + 2 * held)
+unfolding overCounts
+within-counts live held e =
+    (ltb-false mostBoxes held (or-left (ltb mostBoxes held) _ e), ltb-false (1 + 2 * held) live (or-right (ltb mostBoxes held) _ e))
+
+pub ready : (live held : ℕ) (kind : Kind) → refusalOf live held kind ≡ 0 → Ready live held kind
+unfolding refusalOf
+ready live held kind e =
+    let rest = or-else-second (when (overCounts live held) 2) _ e in
+    let w = within-counts live held (when-none (overCounts live held) 1 (or-else-first (when (overCounts live held) 2) _ e)) in
+    let n = eqb-false held mostBoxes (when-none (eqb held mostBoxes) 6 (or-else-second (kindFault kind false) _ rest)) in
+    record {
+      few = w .1;
+      room = omega (arith, n);
+      kind-right = or-else-first (kindFault kind false) _ rest;
+    }

@@ -1,0 +1,5 @@
+//! Writes the cases of samples/load.bin: `gen_load SEED COUNT`.
+
+fn main() {
+    oracle::command::write(oracle::samples::load);
+}

@@ -1,0 +1,138 @@
+//! What is timed, on which inputs, and how: the shortest of many rounds, in one process.
+
+use crate::boundary::Boundary3D;
+use crate::check::{check_packing, PackingRules};
+use crate::examples::{order, ANY, FIXED};
+use crate::extreme_point::run_ep_packing;
+use crate::geometry::Geometry3D;
+use crate::load_file::{Kind, Sheet};
+use crate::packing_utils::layer_fill_in_order;
+use crate::random::Random;
+use crate::rust_side;
+use crate::terms::planned_sheet;
+use std::hint::black_box;
+use std::time::Instant;
+use u_nesting_core::solver::Config;
+use u_nesting_core::Placement;
+
+/// Which call an input is for.
+#[derive(Debug, Clone, Copy, PartialEq)]
+pub enum Engine {
+    Points,
+    Layers,
+    Check,
+}
+
+/// One input with its name.
+pub struct Input {
+    pub name: &'static str,
+    pub engine: Engine,
+    pub boxes: u32,
+    pub sheet: Sheet,
+}
+
+/// Equal ten-cubes into 100×100×100: all fit.
+pub fn cubes(boxes: u32) -> Sheet {
+    order([100.0; 3], &[Kind::new(1, boxes, [10.0; 3], FIXED)])
+}
+
+/// Mixed boxes in all orientations, of which many don't fit.
+pub fn mixed(boxes: u32) -> Sheet {
+    let mut r = Random::of_case(964_377_074, u64::from(boxes));
+    let kinds: Vec<Kind> =
+        (0..boxes / 4).map(|id| Kind::new(id, 4, [0; 3].map(|_| r.from_to(5, 40) as f64), ANY)).collect();
+    // Room for about a quarter of them, however many they are.
+    let side = match boxes {
+        0..=16 => 40.0,
+        17..=64 => 64.0,
+        _ => 100.0,
+    };
+    order([side; 3], &kinds)
+}
+
+/// Boxes of many sizes in all orientations, for the layers.
+pub fn turned(boxes: u32) -> Sheet {
+    let mut r = Random::of_case(377_074_964, u64::from(boxes));
+    let kinds: Vec<Kind> =
+        (0..boxes / 4).map(|id| Kind::new(id, 4, [0; 3].map(|_| r.from_to(4, 12) as f64), ANY)).collect();
+    order([100.0; 3], &kinds)
+}
+
+/// A plan of the layers for so many boxes at spacing 1, to be checked at it.
+pub fn planned(boxes: u32) -> Sheet {
+    let mut order = turned(boxes);
+    order.container.size = [140.0; 3];
+    order.container.spacing = 1.0;
+    let plan = rust_side::plan_layers(&order, u64::MAX);
+    planned_sheet(&order, &plan)
+}
+
+/// Every input at 16, 64 and 256.
+pub fn inputs() -> Vec<Input> {
+    let mut all = Vec::new();
+    for boxes in [16, 64, 256] {
+        let input = |name, engine, sheet| Input { name, engine, boxes, sheet };
+        all.push(input("equal cubes that all fit", Engine::Points, cubes(boxes)));
+        all.push(input("mixed boxes, many don't fit", Engine::Points, mixed(boxes)));
+        all.push(input("boxes in six orientations", Engine::Layers, turned(boxes)));
+        all.push(input("a layer plan at spacing 1", Engine::Check, planned(boxes)));
+    }
+    all
+}
+
+/// The shortest time of one call in nanoseconds, over rounds that fill about `milliseconds`.
+pub fn shortest(milliseconds: u64, mut call: impl FnMut()) -> f64 {
+    call();
+    let all = Instant::now();
+    let mut best = f64::INFINITY;
+    let mut rounds = 0;
+    while rounds < 5 || all.elapsed().as_millis() < u128::from(milliseconds) {
+        let one = Instant::now();
+        call();
+        best = best.min(one.elapsed().as_nanos() as f64);
+        rounds += 1;
+    }
+    best
+}
+
+/// What the Rust needs for an input, made before the clock runs: only its own call is timed.
+struct Ready {
+    geometries: Vec<Geometry3D>,
+    boundary: Boundary3D,
+    config: Config,
+    limit: Option<f64>,
+    placements: Vec<Placement<f64>>,
+    unplaced: Vec<String>,
+}
+
+fn ready(s: &Sheet) -> Ready {
+    Ready {
+        geometries: rust_side::geometries(s),
+        boundary: rust_side::boundary(s),
+        config: rust_side::config(s),
+        limit: s.container.limit(),
+        placements: rust_side::placements(s),
+        unplaced: s.unplaced.iter().map(u32::to_string).collect(),
+    }
+}
+
+/// The unchanged Rust on an input, in nanoseconds.
+pub fn time_rust(input: &Input, milliseconds: u64) -> f64 {
+    let r = ready(&input.sheet);
+    let (margin, spacing) = (r.config.margin, r.config.spacing);
+    match input.engine {
+        Engine::Points => shortest(milliseconds, || {
+            let geometries = black_box(&r.geometries);
+            black_box(run_ep_packing(geometries, &r.boundary, margin, spacing, r.limit, || false));
+        }),
+        Engine::Layers => shortest(milliseconds, || {
+            let geometries = black_box(&r.geometries);
+            black_box(layer_fill_in_order(geometries, &r.boundary, &r.config, || false, |_| ()));
+        }),
+        Engine::Check => shortest(milliseconds, || {
+            let rules = PackingRules { spacing, margin };
+            let placements = black_box(&r.placements);
+            black_box(check_packing(&r.geometries, &r.boundary, &rules, placements, &r.unplaced));
+        }),
+    }
+}

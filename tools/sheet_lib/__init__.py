@@ -1,0 +1,1 @@
+"""What tools/sheet and ./waikurpeho share: load files, their text form, findings in words, pictures."""

@@ -1,0 +1,106 @@
+"""What the program check_sheet prints, read and put in words. Nothing is judged here."""
+import re
+import struct
+from collections import namedtuple
+
+from . import text
+
+# refused 0: the sheet was accepted. needed: the number that follows refusal 6, else None.
+Result = namedtuple('Result', 'refused needed findings')
+# fields: numbers, the floats as Python floats. said: the line as the program printed it.
+Finding = namedtuple('Finding', 'name fields said')
+
+# A finding's fields, and its sentence. A field 'line' is a line's number, from 0; 'bits' is a float.
+FORMS = {
+    'unknown': (('line', 'id'), 'line {0}: there is no kind {1}'),
+    'out-of-range': (('line', 'id', 'instance', 'quantity'),
+                     'line {0}: instance {2} of kind {1} is past its quantity, {3} (instances are counted from 0)'),
+    'repeated': (('line', 'id', 'instance'), 'line {0}: instance {2} of kind {1} is on an earlier line too'),
+    'orientation': (('line', 'id', 'index'), 'line {0}: the rule of kind {1} has no orientation {2}'),
+    'bin': (('line', 'bin'), 'line {0}: bin {1}, and there is one case, bin 0'),
+    'outside': (('line', 'id'), 'line {0}: a box of kind {1} is past a wall, or in its margin'),
+    'overlap': (('line', 'line'), 'lines {0} and {1}: the boxes overlap'),
+    'too-close': (('line', 'line', 'bits', 'bits'), 'lines {0} and {1}: {2} apart, where the spacing is {3}'),
+    'mass': (('bits', 'bits'), 'the boxes weigh {0}, and the limit is {1}'),
+    'missing': (('id',), 'kind {0}: not all its boxes are on the sheet, and it is not listed as unplaced'),
+    'wrongly-unplaced': (('id',), 'kind {0}: listed as unplaced, but complete, listed before, or not a kind of this sheet'),
+}
+
+REFUSALS = {
+    1: 'the shape of the load file is wrong',
+    2: 'a count or the total quantity is over its bound',
+    3: 'a measure or a position is outside its range',
+    4: 'a kind has quantity 0 (or its record has a wrong rule, mass flag, filler or mass)',
+    5: "an id repeats an earlier kind's",
+    6: 'there are more findings than the program has room for',
+    7: 'the placer already holds as many boxes as it can',
+    8: 'a length of the container or of a kind is not whole or is over 10,000, so there is no fill per thousand',
+    9: "an instance list holds a kind past the order's kinds",
+}
+
+_BITS = re.compile(r'[0-9A-F]{16}')
+_WHOLE = re.compile(r'[0-9]+')
+
+
+class FindingsError(Exception):
+    """The text is not what check_sheet prints."""
+
+
+def read(said):
+    """The result that a print of check_sheet holds. Empty lines and lines that begin with # say nothing."""
+    lines = [(number, line.strip()) for number, line in enumerate(said.split('\n'), 1)]
+    lines = [(number, line) for number, line in lines if line and not line.startswith('#')]
+    if not lines:
+        raise FindingsError('there is nothing in it; expected what check_sheet prints')
+    (number, head), rest = lines[0], lines[1:]
+    words = head.split()
+    if not all(map(_WHOLE.fullmatch, words[1:])):
+        words = []
+    if words[:1] == ['refused'] and len(words) in (2, 3) and not rest:
+        return Result(int(words[1]), int(words[2]) if len(words) == 3 else None, [])
+    if words[:1] != ['findings'] or len(words) != 2:
+        raise FindingsError("line %d: expected 'findings N' or 'refused N', found '%s'" % (number, head))
+    if int(words[1]) != len(rest):
+        raise FindingsError('line %d: it says %s findings, and %d follow' % (number, words[1], len(rest)))
+    return Result(0, None, [_finding(number, line) for number, line in rest])
+
+
+def _finding(number, line):
+    name, *words = line.split()
+    if name not in FORMS:
+        raise FindingsError("line %d: '%s' is not the name of a finding" % (number, name))
+    fields = FORMS[name][0]
+    forms = [_BITS if field == 'bits' else _WHOLE for field in fields]
+    if len(words) != len(fields) or not all(form.fullmatch(word) for form, word in zip(forms, words)):
+        raise FindingsError("line %d: '%s' needs %s after it, found '%s'" % (number, name, ', '.join(fields), ' '.join(words)))
+    values = [float_of(word) if field == 'bits' else int(word) for field, word in zip(fields, words)]
+    return Finding(name, tuple(values), line)
+
+
+def float_of(bits):
+    """The float whose bits are these 16 hex digits."""
+    return struct.unpack('>d', bytes.fromhex(bits))[0]
+
+
+def lines_of(finding):
+    """The numbers of the lines that a finding is on."""
+    return [value for value, field in zip(finding.fields, FORMS[finding.name][0]) if field == 'line']
+
+
+def in_words(finding, places=None):
+    """A finding as a sentence. places: where each line stands in the text that the sheet came from."""
+    fields, form = FORMS[finding.name]
+    values = [_plain(value) if field == 'bits' else value for value, field in zip(finding.fields, fields)]
+    said = form.format(*values)
+    rows = [places[line] for line in lines_of(finding) if line < len(places)] if places else []
+    if rows:
+        said += ' [line%s %s of the text]' % ('s' if len(rows) > 1 else '', ' and '.join(map(str, rows)))
+    return said
+
+
+def _plain(value):
+    return repr(value) if value != value or value in (float('inf'), float('-inf')) else text.number(value)
+
+
+def refusal_in_words(number):
+    return REFUSALS.get(number, 'a number that this tool has no words for')

@@ -1,0 +1,88 @@
+"""The proved programs: where they are, how what is missing is built, how they are run.
+
+'rt check' builds them. They are for x86-64; on another processor they run in the toolchain's emulator.
+"""
+import functools
+import os
+import platform
+import shutil
+import subprocess
+import sys
+
+from .command import Problem
+
+ROOT = os.path.dirname(os.path.dirname(os.path.dirname(os.path.realpath(__file__))))
+# The crates, by what they do.
+PLAN, CHECK, FILL = 'plan', 'check_sheet', 'sheet_fill'
+
+
+@functools.lru_cache(maxsize=None)
+def program(name):
+    """The words that start a proved program; it is built if it is missing."""
+    folder = os.environ.get('WAIKURPEHO_PROGRAMS')
+    if folder:
+        # programs from elsewhere, run as they are
+        path = os.path.join(folder, name)
+        if not os.access(path, os.X_OK):
+            raise Problem('WAIKURPEHO_PROGRAMS is %s, and there is no program %s in it' % (folder, name))
+        print('waikurpeho: %s is taken from %s and is not the proved one of this repository' % (name, folder), file=sys.stderr)
+        return [path]
+    path = os.path.join(ROOT, 'target', 'bin', name)
+    # rt leaves the stamp once a program is proved and its own run went well
+    if not (os.path.isfile(path) and os.path.isfile(os.path.join(ROOT, 'target', 'stamp', name))):
+        build(name, path)
+    return runner() + [path]
+
+
+def build(name, path):
+    if not shutil.which('rt'):
+        raise Problem('%s must be built first, and rt is not on the path: install the Rattle toolchain' % name)
+    print('waikurpeho: building %s: it and all that it rests on are proved first, which takes a while' % name, file=sys.stderr)
+    done = subprocess.run(['rt', 'check', name], cwd=ROOT, stdin=subprocess.DEVNULL, stdout=sys.stderr)
+    if done.returncode or not os.path.isfile(path):
+        raise Problem("'rt check %s' failed with status %d, so the program cannot be run" % (name, done.returncode))
+
+
+@functools.lru_cache(maxsize=None)
+def runner():
+    """What a program is started through: the toolchain's loader, as rt does it, under the emulator off x86-64."""
+    machine = platform.machine()
+    native = machine in ('x86_64', 'AMD64')
+    home = toolchain()
+    if home:
+        own = os.path.join(home, 'on', machine, 'toolchain')
+        emulator, library = os.path.join(own, 'bin', 'qemu-x86_64'), os.path.join(own, 'lib')
+        loader = [os.path.join(library, 'ld-linux-x86-64.so.2'), '--library-path', library]
+        if os.path.isfile(loader[0]) and (native or os.access(emulator, os.X_OK)):
+            return loader if native else [emulator] + loader
+    if native:
+        return []
+    raise Problem('the programs are for x86-64, this machine is %s, and %s' % (
+        machine, 'the toolchain at %s has no emulator for it' % home if home else
+        'rt is not on the path: its toolchain has the emulator'))
+
+
+def toolchain():
+    """The toolchain's folder, which rt knows: its guide stands in docs/ there. None without rt."""
+    if not shutil.which('rt'):
+        return None
+    said = subprocess.run(['rt', 'doc'], stdin=subprocess.DEVNULL, stdout=subprocess.PIPE, stderr=subprocess.DEVNULL)
+    guide = said.stdout.decode('utf-8', 'replace').strip()
+    return os.path.dirname(os.path.dirname(guide)) if guide else None
+
+
+def run(name, data, words=()):
+    """Gives a program bytes on standard input. What it wrote on standard output, and what on standard error."""
+    # rt clears the emulator's own variables too
+    around = {key: value for key, value in os.environ.items() if not key.startswith('QEMU_')}
+    try:
+        done = subprocess.run(program(name) + list(words), input=data, env=around,
+                              stdout=subprocess.PIPE, stderr=subprocess.PIPE)
+    except OSError as error:
+        raise Problem('%s cannot be started: %s' % (name, error.strerror)) from None
+    return done.stdout, done.stderr.decode('utf-8', 'replace').strip(), done.returncode
+
+
+def strange(name, status, said):
+    """A program said something that it does not say."""
+    return Problem('%s ended with status %d and wrote nothing that is known here%s' % (name, status, ': ' + said[:300] if said else ''))
