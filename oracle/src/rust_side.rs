@@ -70,7 +70,7 @@ fn number(id: &str) -> u32 {
     id.parse().expect("ids are decimal numbers")
 }
 
-/// Document 01's list: the Rust's helper, each id once.
+/// Document 01's list: the Rust's own, each id once.
 fn unplaced(placed: &[Placement<f64>], geometries: &[Geometry3D]) -> Vec<u32> {
     let mut ids: Vec<u32> =
         packing_utils::build_unplaced_list(placed, geometries).iter().map(|id| number(id)).collect();

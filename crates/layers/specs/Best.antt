@@ -15,8 +15,8 @@ use Rattle.layers.specs.declared.cursor.LayerSpot.{LayerSpot}
 use Rattle.layers.specs.declared.stand.Stand.{Stand}
 use Rattle.layers.specs.declared.stand.Step.{Step}
 use Rattle.layers.specs.declared.best.Best.{Best}
-use Rattle.layers.specs.Spot.{noSpot, spotOf}
-use Rattle.layers.specs.Stand.{massAllows, settled, noStep, ruled-stays}
+use Rattle.layers.specs.Spot.{spotOf}
+use Rattle.layers.specs.Stand.{massAllows, turnedOf, noStep, ruled-stays, turned-stays}
 
 abbrev million : Float
 million = ofBits binary64 0x412E848000000000
@@ -32,27 +32,32 @@ abbrev pub scoreOf : List Float → Float → Float
 scoreOf at height = z at ⊗ million ⊕ y at ⊗ thousand ⊕ x at ⊕ height ⊗ tenth
 
 -- before any orientation was tried
-abbrev pub noBest : LayerCursor → Best
-noBest c = record { orientation = 0; score = none; spot = noSpot c }
+abbrev pub noBest : Best
+noBest = record { found = false; orientation = 0; score = none }
 
 -- 01: "the orientation of strictly least" score; "the first wins a tie": a later one must be less
 unfoldable pub better : Best → LayerSpot → Float → ℕ → Best
 better b p height o =
-    cond (p .fits && (not (b .spot .fits) || lt (scoreOf (p .at) height) (b .score)))
-    (record { orientation = o; score = scoreOf (p .at) height; spot = p })
+    cond (p .fits && (not (b .found) || lt (scoreOf (p .at) height) (b .score)))
+    (record { found = true; orientation = o; score = scoreOf (p .at) height })
     b
 
 -- the best of orientations 0 to n − 1
 unfoldable pub bestOf : Container → List Float → LayerCursor → Kind → ℕ → Best
-bestOf b max c k zero = noBest c
+bestOf b max c k zero = noBest
 bestOf b max c k (suc o) = better (bestOf b max c k o) (spotOf b max c (lengthsIn k o)) (z (lengthsIn k o)) o
 
 -- the best of all that the kind's rule allows
 abbrev pub bestFor : Stand → Kind → Best
 bestFor s k = bestOf (s .container) (s .max) (s .cursor) k (length (shareOf (k .rule)))
 
+-- the box in that orientation, if there is one
+abbrev pub bestStep : Stand → Kind → Step
+bestStep s k = cond (bestFor s k .found) (turnedOf s k (bestFor s k .orientation)) (noStep s)
+
+-- 01: the mass rule "before any spot is sought"
 unfoldable pub placeBestOf : Stand → Kind → Step
-placeBestOf s k = cond (massAllows s k) (settled s k (bestFor s k .orientation) (bestFor s k .spot)) (noStep s)
+placeBestOf s k = cond (massAllows s k) (bestStep s k) (noStep s)
 
 -- ---- no rule allows more than six
 pub few : (rule : ℕ) → length (shareOf rule) ≤ 6
@@ -63,4 +68,6 @@ few (suc (suc n)) = omega arith
 -- ---- no leaves everything as it was
 pub best-stays : (s : Stand) (k : Kind) → placeBestOf s k .fits ≡ false → placeBestOf s k ≡ noStep s
 unfolding placeBestOf
-best-stays s k h = ruled-stays s k (bestFor s k .orientation) (bestFor s k .spot) (massAllows s k) h
+best-stays s k =
+    ruled-stays s (bestStep s k) (massAllows s k)
+    (ruled-stays s (turnedOf s k (bestFor s k .orientation)) (bestFor s k .found) (turned-stays s k (bestFor s k .orientation)))

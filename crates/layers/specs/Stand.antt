@@ -46,34 +46,30 @@ noStep s = record { fits = false; orientation = 0; at = nowhere; next = s }
 unfoldable pub settled : Stand → Kind → ℕ → LayerSpot → Step
 settled s k o p = cond (p .fits) (record { fits = true; orientation = o; at = p .at; next = committed s k p }) (noStep s)
 
+-- a box turned to an orientation, with no regard to mass
+abbrev pub turnedOf : Stand → Kind → ℕ → Step
+turnedOf s k o = settled s k o (spotIn s k o)
+
 -- 01: the mass rule "before any spot is sought", then the spot
 unfoldable pub placeOf : Stand → Kind → ℕ → Step
-placeOf s k o = cond (massAllows s k) (settled s k o (spotIn s k o)) (noStep s)
+placeOf s k o = cond (massAllows s k) (turnedOf s k o) (noStep s)
 
 -- the share of the container's volume that the placed boxes have
 abbrev pub fillOf : Stand → Float
 fillOf s = s .volume ⊘ volume (s .container .size)
 
 -- ---- no leaves everything as it was: a step that doesn't fit is `noStep`
-pub settled-no : (s : Stand) (k : Kind) (o : ℕ) (p : LayerSpot) → p .fits ≡ false → settled s k o p ≡ noStep s
-unfolding settled
-settled-no s k o p e = rw e
 
-settled-stays : (s : Stand) (k : Kind) (o : ℕ) (p : LayerSpot) → settled s k o p .fits ≡ false → settled s k o p ≡ noStep s
-unfolding settled
-settled-stays s k o p = go (p .fits)
-  where
-    go : (b : Bool)
-        → cond b (record { fits = true; orientation = o; at = p .at; next = committed s k p }) (noStep s) .fits ≡ false
-        → cond b (record { fits = true; orientation = o; at = p .at; next = committed s k p }) (noStep s) ≡ noStep s
-    go true h = cc
-    go false h = refl
+-- it stays so under a test that may say no first
+pub ruled-stays : (s : Stand) (r : Step) (b : Bool) → (r .fits ≡ false → r ≡ noStep s) → cond b r (noStep s) .fits ≡ false → cond b r (noStep s) ≡ noStep s
+ruled-stays s r true f h = f h
+ruled-stays s r false f h = refl
 
--- the same under the mass rule
-pub ruled-stays : (s : Stand) (k : Kind) (o : ℕ) (p : LayerSpot) (b : Bool) → cond b (settled s k o p) (noStep s) .fits ≡ false → cond b (settled s k o p) (noStep s) ≡ noStep s
-ruled-stays s k o p true h = settled-stays s k o p h
-ruled-stays s k o p false h = refl
+pub turned-stays : (s : Stand) (k : Kind) (o : ℕ) → turnedOf s k o .fits ≡ false → turnedOf s k o ≡ noStep s
+unfolding settled
+turned-stays s k o =
+    ruled-stays s (record { fits = true; orientation = o; at = spotIn s k o .at; next = committed s k (spotIn s k o) }) (spotIn s k o .fits) (λ h. cc)
 
 pub place-stays : (s : Stand) (k : Kind) (o : ℕ) → placeOf s k o .fits ≡ false → placeOf s k o ≡ noStep s
 unfolding placeOf
-place-stays s k o h = ruled-stays s k o (spotIn s k o) (massAllows s k) h
+place-stays s k o = ruled-stays s (turnedOf s k o) (massAllows s k) (turned-stays s k o)

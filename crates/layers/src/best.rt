@@ -1,6 +1,6 @@
 // The best of the orientations that a kind's rule allows.
 ghost use mathlib.Core.Path.{_≡_};
-ghost use Rattle.layers.specs.Best.{scoreOf, better, noBest, bestOf, placeBestOf};
+ghost use Rattle.layers.specs.Best.{scoreOf, better, bestOf, placeBestOf};
 use crate::cursor::LayerCursor;
 use crate::cursor::LayerSpot;
 use crate::cursor::spot;
@@ -8,15 +8,14 @@ use crate::stand::Stand;
 use crate::stand::Step;
 use crate::stand::mass_allows;
 use crate::stand::no_step;
-use crate::stand::settle;
 use measures::Container;
 use measures::Kind;
 
-// The best spot among those tried so far, with its score; one that doesn't fit while there is none.
-pub struct Best {
-    pub orientation: u32,
-    pub score: f64,
-    pub spot: LayerSpot,
+// The best orientation among those tried so far, with its score, if a box fits in one.
+pub(crate) struct Best {
+    found: bool,
+    orientation: u32,
+    score: f64,
 }
 
 // Low, then near the front, then to the left, then flat: the less the better.
@@ -32,38 +31,25 @@ fn better(b: Best, p: LayerSpot, height: f64, orientation: u32) -> Best
 {
     let at = p.at;
     let score = score(at, height);
-    let old = b.spot;
-    if p.fits & (!old.fits | (score < b.score)) {
+    if p.fits & (!b.found | (score < b.score)) {
         return Best {
+            found: true,
             orientation,
             score,
-            spot: p,
         };
     }
     b
-}
-
-// Before any orientation was tried.
-fn no_best(cursor: LayerCursor) -> Best
-    ensures { λ r. ⌜ r ≡ noBest cursor ⌝ }
-{
-    let spot = LayerSpot {
-        fits: false,
-        at: [0.0, 0.0, 0.0],
-        next: cursor,
-    };
-    Best {
-        orientation: 0,
-        score: 0.0,
-        spot,
-    }
 }
 
 // The best of the first n orientations.
 fn best_of(container: Container, max: [f64; 3], cursor: LayerCursor, kind: Kind, n: u32) -> Best
     ensures { λ r. ⌜ r ≡ bestOf container max cursor kind n ⌝ }
 {
-    let mut b = no_best(cursor);
+    let mut b = Best {
+        found: false,
+        orientation: 0,
+        score: 0.0,
+    };
     let mut i: u32 = 0;
     while i < n {
         let size = measures::dimensions_for_orientation(kind, i);
@@ -88,7 +74,9 @@ impl Stand {
         let max = self.max;
         let cursor = self.cursor;
         let b = best_of(container, max, cursor, kind, n);
-        let p = b.spot;
-        settle(self, kind, b.orientation, p)
+        if !b.found {
+            return no_step(self);
+        }
+        self.place_turned(kind, b.orientation)
     }
 }

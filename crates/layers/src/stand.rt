@@ -1,6 +1,6 @@
 // A fill without its placements: what a box offered to it needs to know, and what a box placed in it moves.
 ghost use mathlib.Core.Path.{_≡_};
-ghost use Rattle.layers.specs.Stand.{newOf, massAllows, committed, noStep, settled, placeOf, fillOf};
+ghost use Rattle.layers.specs.Stand.{newOf, massAllows, committed, noStep, settled, turnedOf, placeOf, fillOf};
 use crate::cursor::LayerCursor;
 use crate::cursor::LayerSpot;
 use crate::cursor::spot;
@@ -64,7 +64,7 @@ pub fn no_step(stand: Stand) -> Step
 }
 
 // The answer to an offer whose spot is known.
-pub(crate) fn settle(stand: Stand, kind: Kind, orientation: u32, spot: LayerSpot) -> Step
+fn settle(stand: Stand, kind: Kind, orientation: u32, spot: LayerSpot) -> Step
     ensures { λ r. ⌜ r ≡ settled stand kind orientation spot ⌝ }
 {
     if spot.fits {
@@ -104,6 +104,17 @@ impl Stand {
         }
     }
 
+    // A box of a kind turned to an orientation, with no regard to mass.
+    pub(crate) fn place_turned(self, kind: Kind, orientation: u32) -> Step
+        ensures { λ r. ⌜ r ≡ turnedOf self kind orientation ⌝ }
+    {
+        let size = measures::dimensions_for_orientation(kind, orientation);
+        let container = self.container;
+        let max = self.max;
+        let cursor = self.cursor;
+        settle(self, kind, orientation, spot(container, max, cursor, size))
+    }
+
     // A box of a kind, in one orientation.
     pub fn place(self, kind: Kind, orientation: u32) -> Step
         ensures { λ r. ⌜ r ≡ placeOf self kind orientation ⌝ }
@@ -111,11 +122,7 @@ impl Stand {
         if !mass_allows(self, kind) {
             return no_step(self);
         }
-        let size = measures::dimensions_for_orientation(kind, orientation);
-        let container = self.container;
-        let max = self.max;
-        let cursor = self.cursor;
-        settle(self, kind, orientation, spot(container, max, cursor, size))
+        self.place_turned(kind, orientation)
     }
 
     // Fraction of the container volume that the placed boxes fill.

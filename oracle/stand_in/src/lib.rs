@@ -1,7 +1,7 @@
 //! Stand-ins for the parts of `u_nesting_core` that the five files of `d3` use.
 //!
 //! Only what reaches a packing answer is written with care: the three-vector, the placement
-//! record, the config and the unplaced helper. The rest is there so that the files compile.
+//! record, the config and `unplaced_ids`. The rest is there so that the files compile.
 
 pub mod error;
 pub mod geom;

@@ -1,4 +1,4 @@
-//! The unplaced helper, as `core/src/result.rs` has it.
+//! `unplaced_ids`, as `core/src/result.rs` has it.
 
 use crate::geometry::{Geometry, GeometryId};
 use crate::placement::Placement;

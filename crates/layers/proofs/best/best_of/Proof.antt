@@ -15,14 +15,14 @@ abbrev μ-loop : tie.MeasureT-loop
 
 loop-holds : tie.Need-loop-holds Inv-loop μ-loop
 unfolding bestOf
-loop-holds c = (omega arith, c .no-best .ensures)
+loop-holds c = (omega arith, refl)
 
 loop-again : tie.Need-loop-again Inv-loop μ-loop
 unfolding bestOf
 loop-again c = (omega arith, rw add-one (rw (c .better .ensures, c .before .spot .ensures, c .before .before .dimensions-for-orientation .ensures, c .before .before .before .before .loop .inv .1)))
 
 returns : tie.Need-returns Inv-loop μ-loop
-returns c = let e : c .before .loop .i ≡ c .before .before .before .args .n = omega arith in rw e at (c .before .loop .inv .1)
+returns c = let e : c .before .loop .i ≡ c .before .before .args .n = omega arith in rw e at (c .before .loop .inv .1)
 
 pub best-of-spec : {M : Type 1} → statement M
 best-of-spec =
@@ -30,7 +30,6 @@ best-of-spec =
     (tie.spec
     Inv-loop
     μ-loop
-    (λ c κs. tt)
     loop-holds
     (λ c κs. tt)
     (λ c κs. tt)
