@@ -1,0 +1,17 @@
+-- `replay_load::untouched` is safe and ends: what is left of the bytes shrinks.
+use Prim.Native.Nat.{_-_}
+use lib.ListN.{length}
+use borrow.Author.Needs.{needs}
+use Rattle.replay_load.proofs.untouched.Statement.{statement}
+use Rattle.replay_load.proofs.untouched.Tie as tie
+
+abbrev Inv-loop : tie.InvT-loop
+Inv-loop a same₀ i₀ same i = Unit {0}
+
+abbrev μ-loop : tie.MeasureT-loop
+μ-loop a same₀ i₀ same i = length a - i
+
+pub untouched-spec : {M : Type 1} → statement M
+untouched-spec =
+    tie.close
+    (tie.spec Inv-loop μ-loop (λ c. search needs) (λ c. search needs) (λ c. search needs) (λ c. search needs) (λ c. search needs) (λ c. search needs))

@@ -1,0 +1,22 @@
+-- `vectors::counted` meets its contract: what its calls ensure, put together.
+use borrow.Author.Needs.{needs}
+use Rattle.vectors.proofs.counted.Statement.{statement}
+use Rattle.vectors.proofs.counted.Tie as tie
+
+returns : tie.Need-returns
+returns c = cc
+
+pub counted-spec : {M : Type 1} → statement M
+counted-spec =
+    tie.close
+    (tie.spec
+    (λ c κs. search needs)
+    (λ c κs. search needs)
+    (λ c κs. search needs)
+    (λ c κs. search needs)
+    (λ c κs. search needs)
+    (λ c κs. search needs)
+    (λ c κs. search needs)
+    (λ c κs. search needs)
+    (λ c κs. search needs)
+    returns)

@@ -1,0 +1,32 @@
+-- `vectors::four` meets its contract: the bytes by their weights.
+use Rattle.load_file.specs.Bytes.{u32At}
+use borrow.Author.Needs.{needs}
+use Rattle.vectors.proofs.four.Statement.{statement}
+use Rattle.vectors.proofs.four.Tie as tie
+
+returns : tie.Need-returns
+unfolding u32At
+returns c = search needs
+
+pub four-spec : {M : Type 1} → statement M
+four-spec =
+    tie.close
+    (tie.spec
+    (λ c. search needs)
+    (λ c κs. search needs)
+    (λ c. search needs)
+    (λ c. search needs)
+    (λ c κs. search needs)
+    (λ c. search needs)
+    (λ c. search needs)
+    (λ c κs. search needs)
+    (λ c. search needs)
+    (λ c. search needs)
+    (λ c κs. search needs)
+    (λ c. search needs)
+    (λ c. search needs)
+    (λ c. search needs)
+    (λ c. search needs)
+    (λ c. search needs)
+    (λ c. search needs)
+    returns)
