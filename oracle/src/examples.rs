@@ -1,4 +1,4 @@
-//! Document 01's measured examples as orders, calls and sheets, with the field notes' point inside a box.
+//! Document 01's measured examples as orders, calls and sheets, with the known point inside a box.
 
 use crate::load_file::{Kind, Line, Sheet};
 use crate::terms::Call;
@@ -87,7 +87,7 @@ fn calls(kinds: &[u32]) -> Vec<Call> {
     kinds.iter().map(|&kind| Call { kind, instance: 0, orientation: 0 }).collect()
 }
 
-/// The field notes' boxes: P longer than A by one unit in the last place, or as long.
+/// The boxes of the known point inside a box: P longer than A by one unit in the last place, or as long.
 fn inside(p: f64) -> Sheet {
     let (a, q) = ([16_777_196.0, 10.0, 10.0], [100.0, 50.0, 100.0]);
     let kinds = [Kind::new(1, 3, a, FIXED), Kind::new(2, 1, q, FIXED), Kind::new(3, 1, [p, 10.0, 10.0], FIXED)];
@@ -96,7 +96,7 @@ fn inside(p: f64) -> Sheet {
     s
 }
 
-/// The field notes' boxes with the axes in each order, and a block whose faces stand just so far out
+/// The boxes of the known point inside a box with the axes in each order, and a block whose faces stand just so far out
 /// that the new point is on a face, within the slack of it, or inside.
 pub fn faces() -> Vec<(Sheet, Vec<Call>)> {
     let (long, spacing) = (16_777_196.0_f64, 20.2);
@@ -117,7 +117,7 @@ pub fn faces() -> Vec<(Sheet, Vec<Call>)> {
     all
 }
 
-/// Calls of `try_place`: the field notes' two, P2, P3, and 256 boxes that keep every point.
+/// Calls of `try_place`: the known two, P2, P3, and 256 boxes that keep every point.
 pub fn point_calls() -> Vec<(Sheet, Vec<Call>)> {
     let many = order([1e9; 3], &[cube(1, 256, 1.0)]);
     vec![

@@ -2,33 +2,17 @@
 use Prim.Native.Nat.{ℕ, zero, suc, _+_}
 use mathlib.Core.Bool.{Bool, true, false, _||_}
 
--- 01's table, by name
-abbrev pub shape : ℕ
-shape = 1
-
-abbrev pub count : ℕ
-count = 2
-
-abbrev pub measure : ℕ
-measure = 3
-
-abbrev pub faulty : ℕ
-faulty = 4
-
-abbrev pub repeated : ℕ
-repeated = 5
-
-abbrev pub room : ℕ
-room = 6
-
-abbrev pub full : ℕ
-full = 7
-
-abbrev pub fraction : ℕ
-fraction = 8
-
-abbrev pub stranger : ℕ
-stranger = 9
+-- 01's numbers, each with where its condition is defined:
+--   1 the load file's shape (load_file: rightShape)
+--   2 a count or the total quantity (sheet: overCount, sheetRefusal; points: overCounts; layers: placeRefusal)
+--   3 a measure or a position (measures: measureFault, containerFault; sheet: lineFault)
+--   4 a kind record (measures: recordFault)
+--   5 a repeated id (sheet: sameId)
+--   6 too few lent slots (load_file: writtenOf; plans: handRefusal; checker: checkRefusal)
+--   7 a full placer (points: refusalOf; layers: placeRefusal)
+--   8 a length that isn't whole, for the fill per thousand
+--   9 a kind index past the order's kinds, in a given instance list
+-- and their order: load_file: refusalOf, sheet: sheetRefusal, measures: kindFault.
 
 -- the refusal n where the test holds
 abbrev pub when : Bool → ℕ → ℕ

@@ -1,7 +1,6 @@
 // The stated domain: every bound and range of the planner, once, with the tests on them; and the refusal numbers.
 ghost use mathlib.Core.Path.{_≡_};
-ghost use Rattle.domain.specs.Bounds.{};
-ghost use Rattle.domain.specs.Ranges.{isLength, isMeasure, isLimit, isPosition, isFill};
+ghost use Rattle.domain.specs.Ranges.{isLength, isMeasure, isLimit, isPosition};
 ghost use Rattle.domain.specs.Refusals.{when, orElse};
 
 // Counts.
