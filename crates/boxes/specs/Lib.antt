@@ -1,0 +1,3 @@
+-- The boxes of an order in listing order.
+pub mod Turns
+pub mod Listing

@@ -1,0 +1,83 @@
+// The boxes of an order in listing order: each kind's instances in turn, then the next kind's. Both placers begin with it
+// (packing_utils.rs, `build_instances`; extreme_point.rs, the loops that open `run_ep_packing`).
+ghost use mathlib.Core.Path.{_≡_};
+ghost use Prim.Native.Nat.{_<_};
+ghost use Rattle.domain.specs.Bounds.{mostBoxes};
+ghost use Rattle.sheet.specs.Sheets.{quantityOf};
+ghost use Rattle.boxes.specs.Turns.{nextTurn};
+ghost use Rattle.boxes.specs.Listing.{atMostAll, noBoxes, listingOf};
+use measures::Kind;
+
+// One box: its kind's place in the order, and which one of that kind it is.
+pub struct Instance {
+    pub kind: usize,
+    pub instance: u32,
+}
+
+// How many boxes a kind has; a kind past the store has none.
+fn quantity_at(kinds: [Kind; domain::MOST_KINDS], k: usize) -> u32
+    ensures { λ r. ⌜ r ≡ quantityOf kinds k ⌝ }
+{
+    if k < domain::MOST_KINDS {
+        let kind = kinds[k];
+        return kind.quantity;
+    }
+    0
+}
+
+// The box after this one, of a kind that has so many.
+fn next_turn(u: Instance, quantity: u32) -> Instance
+    requires { ⌜ u .kind < mostBoxes ⌝ }
+    ensures { λ r. ⌜ r ≡ nextTurn quantity u ⌝ }
+{
+    if (u.instance as u64) + 1 < quantity as u64 {
+        return Instance {
+            kind: u.kind,
+            instance: u.instance + 1,
+        };
+    }
+    Instance {
+        kind: u.kind + 1,
+        instance: 0,
+    }
+}
+
+// At most as many boxes as there can be.
+fn at_most_all(n: usize) -> usize
+    ensures { λ r. ⌜ r ≡ atMostAll n ⌝ }
+{
+    if n < domain::MOST_BOXES {
+        return n;
+    }
+    domain::MOST_BOXES
+}
+
+fn no_boxes() -> [Instance; domain::MOST_BOXES]
+    ensures { λ r. ⌜ r ≡ noBoxes ⌝ }
+{
+    let none = Instance {
+        kind: 0,
+        instance: 0,
+    };
+    [none; domain::MOST_BOXES]
+}
+
+// The first n boxes of an order.
+pub fn listing(kinds: [Kind; domain::MOST_KINDS], n: usize) -> [Instance; domain::MOST_BOXES]
+    ensures { λ r. ⌜ r ≡ listingOf kinds n ⌝ }
+{
+    let most = at_most_all(n);
+    let mut boxes = no_boxes();
+    let mut u = Instance {
+        kind: 0,
+        instance: 0,
+    };
+    let mut t = 0;
+    while t < most {
+        boxes[t] = u;
+        let quantity = quantity_at(kinds, u.kind);
+        u = next_turn(u, quantity);
+        t += 1;
+    }
+    boxes
+}
