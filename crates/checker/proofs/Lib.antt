@@ -1,7 +1,6 @@
--- What the proofs of this crate share, and worked examples.
+-- What the proofs of this crate share.
 pub mod Writes
 pub mod Held
-pub mod Examples
 pub mod Boxes
 pub mod Apart
 pub mod ById

@@ -3,4 +3,3 @@ pub mod Spot
 pub mod Stand
 pub mod Best
 pub mod Fill
-pub mod Examples

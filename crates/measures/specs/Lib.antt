@@ -3,4 +3,3 @@ pub mod Orders
 pub mod Turned
 pub mod Volume
 pub mod Faults
-pub mod Examples

@@ -1,4 +1,4 @@
--- Worked examples of 01, by computation, and the tolerance of its container.
+-- Two worked pairs, by computation, and the tolerance of 01's container.
 use mathlib.Core.Path.{_≡_, refl}
 use mathlib.Core.List.{List, [], _∷_}
 use Prim.Native.Nat.{ℕ}
@@ -26,12 +26,6 @@ tenth = toleranceOf (at 10 10 10)
 pub ten-is : toBits binary64 tenth ≡ 0x3E479F505F35670D
 unfolding toleranceOf toBits ofBits ofInt lt neg add mul
 ten-is = refl
-
--- P9: "Spacing 6: gaps 3, 4, 0 give distance 5; 1, 1, 0 give bits 3FF6A09E667F3BCD."
-pub p9 : (verdictOf (cube (at 0 0 0) (at 1 1 1)) (cube (at 4 5 1) (at 5 6 2)) (whole 6) tenth ≡ Verdict.TooClose (whole 5))
-    × (verdictOf (cube (at 0 0 0) (at 1 1 1)) (cube (at 2 2 1) (at 3 3 2)) (whole 6) tenth ≡ Verdict.TooClose (ofBits binary64 0x3FF6A09E667F3BCD))
-unfolding toleranceOf verdictAt distanceOf sqrtOf toBits ofBits ofInt lt neg add sub mul
-p9 = (refl, refl)
 
 -- boxes that touch are apart where nothing is asked, and boxes in one place overlap
 pub touching : verdictOf (cube (at 0 0 0) (at 1 1 1)) (cube (at 1 0 0) (at 2 1 1)) (whole 0) tenth ≡ Verdict.Apart

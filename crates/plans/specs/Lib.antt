@@ -3,3 +3,4 @@ pub mod Plans
 pub mod Rows
 pub mod Hand
 pub mod Boxes
+pub mod Planned

@@ -6,11 +6,14 @@ ghost use lib.ListN.{length};
 ghost use lib.Seq.{sets};
 ghost use Rattle.domain.specs.Bounds.{mostLines};
 ghost use Rattle.plans.specs.Plans.{refusedPlan, plannedOf};
+ghost use Rattle.plans.specs.Planned.{widened, plannedSheet};
 ghost use Rattle.plans.specs.Boxes.{smaller};
 ghost use Rattle.plans.specs.Rows.{wrote};
 ghost use Rattle.plans.specs.Hand.{wordsOf, lineWords, handRefusal, refusedPack, handedOf, slotsOf};
 use measures::Kind;
+use sheet::Counts;
 use sheet::Line;
+use sheet::Sheet;
 
 // The first `placed` lines and the first `unplaced` ids. A refused plan holds nothing but its refusal.
 pub struct Plan {
@@ -181,5 +184,42 @@ pub fn hand_out(plan: Plan, slots: &mut [u64]) -> Packed
         utilization: plan.utilization,
         unplaced: plan.unplaced,
         ids,
+    }
+}
+
+// The unplaced ids in a sheet's store, which has room for more.
+fn widened(ids: [u32; domain::MOST_KINDS]) -> [u32; domain::MOST_UNPLACED]
+    ensures { λ r. ⌜ r ≡ widened ids ⌝ }
+{
+    let mut all = [0u32; domain::MOST_UNPLACED];
+    let mut i = 0;
+    while i < domain::MOST_KINDS {
+        all[i] = ids[i];
+        i += 1;
+    }
+    all
+}
+
+// The planned sheet: the order, its lines and unplaced ids replaced by the plan's.
+pub fn planned_sheet(order: Sheet, plan: Plan) -> Sheet
+    ensures { λ r. ⌜ r ≡ plannedSheet order plan ⌝ }
+{
+    let ordered = order.many;
+    let many = Counts {
+        kinds: ordered.kinds,
+        lines: plan.placed,
+        unplaced: plan.unplaced,
+    };
+    let container = order.container;
+    let kinds = order.kinds;
+    let lines = plan.lines;
+    let ids = plan.ids;
+    let unplaced = widened(ids);
+    Sheet {
+        many,
+        container,
+        kinds,
+        lines,
+        unplaced,
     }
 }

@@ -8,8 +8,9 @@ use native.Mathlib.Nat.{le-refl}
 use lib.Ieee.{Float, lt}
 use Rattle.floats.specs.Ops.{x, y, z}
 use Rattle.points.specs.declared.Choice.{Choice}
-use Rattle.points.specs.declared.ExtremePointSet.{ExtremePointSet}
-use Rattle.points.specs.Triples.{three}
+use Rattle.point_set.specs.declared.ExtremePointSet.{ExtremePointSet}
+use Rattle.point_set.specs.Stores.{pointAt}
+use Rattle.point_set.specs.Triples.{three}
 use Rattle.points.specs.Fit.{fitsAt}
 
 -- 01: "Points are tried by z, then y, then x, least first"; where a comparison has no answer the two count as equal, as in the Rust
@@ -17,19 +18,20 @@ unfoldable pub sooner : List Float → List Float → Bool
 sooner v w =
     lt (z v) (z w) || (not (lt (z w) (z v)) && (lt (y v) (y w) || (not (lt (y w) (y v)) && lt (x v) (x w))))
 
--- point v, the i-th, after the choice so far, which is at w: taken if it passes, and there was none or it stands before that one
+-- point v takes the place of the choice so far, which is at w: it passes, and there was none or it stands before that one
+unfoldable pub takes : Bool → List Float → List Float → Bool → Bool
+takes passes v w found = not (found && not (sooner v w)) && passes
+
+-- the choice after point v, the i-th
 unfoldable pub stepBy : Bool → List Float → List Float → ℕ → Choice → Choice
-stepBy passes v w i c = cond (c .found && not (sooner v w)) c (cond passes (record { found = true; index = i }) c)
+stepBy passes v w i c =
+    let t = takes passes v w (c .found) in record { found = c .found || t; index = cond t i (c .index) }
 
 -- the choice among the first n points, by whether each passes
 unfoldable pub scanBy : (ℕ → Bool) → List Float → ℕ → Choice
 scanBy passes points zero = record { found = false; index = 0 }
 scanBy passes points (suc i) =
     let c = scanBy passes points i in stepBy (passes i) (three points i) (three points (c .index)) i c
-
--- stored point i
-abbrev pub pointAt : ExtremePointSet → ℕ → List Float
-pointAt s i = three (s .points) i
 
 -- 01: "The first that passes": the least stored point at which a box of these lengths fits
 unfoldable pub bestOf : ExtremePointSet → List Float → Choice
@@ -44,9 +46,7 @@ cond-keeps P false p q = q
 -- the index stays within what it and the new point are within
 pub step-index : (passes : Bool) (v w : List Float) (i k : ℕ) (c : Choice) → i ≤ k → c .index ≤ k → stepBy passes v w i c .index ≤ k
 unfolding stepBy
-step-index passes v w i k c hi hc =
-    cond-keeps (λ (d : Choice). d .index ≤ k) (c .found && not (sooner v w)) hc
-    (cond-keeps (λ (d : Choice). d .index ≤ k) passes hi hc)
+step-index passes v w i k c hi hc = cond-keeps (λ (j : ℕ). j ≤ k) (takes passes v w (c .found)) hi hc
 
 module _ (passes : ℕ → Bool) (points : List Float) where
   scan-index : (n : ℕ) → scanBy passes points (suc n) .index ≤ n

@@ -15,11 +15,12 @@ use Rattle.domain.specs.Laws.{and-left}
 use Rattle.measures.specs.declared.Kind.{Kind}
 use Rattle.measures.specs.declared.Container.{Container}
 use Rattle.measures.specs.Orders.{lengthsIn}
-use Rattle.points.specs.declared.Label.{Label}
+use Rattle.point_set.specs.declared.Label.{Label}
 use Rattle.points.specs.declared.Tried.{Tried}
-use Rattle.points.specs.declared.ExtremePointSet.{ExtremePointSet}
-use Rattle.points.specs.Triples.{cells, mostPoints, three, put3, put3-length, put3-keeps}
-use Rattle.points.specs.Choose.{pointAt, bestOf, scan-found}
+use Rattle.point_set.specs.declared.ExtremePointSet.{ExtremePointSet}
+use Rattle.point_set.specs.Triples.{cells, mostPoints, three, put3, put3-length, put3-keeps}
+use Rattle.point_set.specs.Stores.{pointAt}
+use Rattle.points.specs.Choose.{bestOf, scan-found}
 use Rattle.points.specs.Grow.{Stock, dropped, added, countWith, pointsWith, count-with, Between, alongX, alongY, alongZ, cornersOf, valid, stockOf, putBox, settled}
 use Rattle.points.specs.Place.{refusalOf, labelOf, placedBy, triedOf, Ready, ready}
 use Rattle.points.specs.Least.{Sound}

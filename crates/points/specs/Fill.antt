@@ -9,20 +9,19 @@ use Rattle.floats.specs.Ops.{none, _⊕_}
 use Rattle.domain.specs.Bounds.{mostKinds, mostBoxes}
 use Rattle.measures.specs.declared.Kind.{Kind}
 use Rattle.measures.specs.Orders.{shareOf}
-use Rattle.points.specs.declared.Item.{Item}
+use Rattle.boxes.specs.declared.Instance.{Instance}
+use Rattle.boxes.specs.Listing.{noInstance}
 use Rattle.points.specs.declared.Filled.{Filled}
 use Rattle.points.specs.declared.Tried.{Tried}
-use Rattle.points.specs.declared.ExtremePointSet.{ExtremePointSet}
+use Rattle.point_set.specs.declared.ExtremePointSet.{ExtremePointSet}
 use Rattle.points.specs.declared.Answer.the-variants.{Stands, NoRoom, Refused}
-use Rattle.points.specs.Place.{nowhere, triedOf, stood}
-use Rattle.points.specs.Boxes.{heldIn, totalMass}
+use Rattle.point_set.specs.Fresh.{nowhere}
+use Rattle.points.specs.Place.{triedOf, stood}
+use Rattle.point_set.specs.Boxes.{heldIn, totalMass}
 
 -- a kind that every place call refuses, in the place of one past the list
 abbrev pub noKind : Kind
 noKind = record { id = 0; quantity = 0; size = []; mass = nan; rule = 0; massed = 0; filler = 0 }
-
-abbrev pub noItem : Item
-noItem = record { kind = 0; instance = 0 }
 
 unfoldable pub kindIn : List Kind → ℕ → Kind
 kindIn kinds k = cond (ltb k mostKinds) (getD kinds k noKind) noKind
@@ -56,11 +55,11 @@ turnOf kind instance f =
     (afterAttempt (attemptOf (f .next) kind instance (length (shareOf (kind .rule)))) f)
 
 -- the first n items
-unfoldable pub filledBy : ExtremePointSet → List Kind → List Item → ℕ → Filled
+unfoldable pub filledBy : ExtremePointSet → List Kind → List Instance → ℕ → Filled
 filledBy s kinds items zero = record { next = s; orientations = replicate mostBoxes 0 }
 filledBy s kinds items (suc i) =
-    let item = getD items i noItem in turnOf (kindIn kinds (item .kind)) (item .instance) (filledBy s kinds items i)
+    let item = getD items i noInstance in turnOf (kindIn kinds (item .kind)) (item .instance) (filledBy s kinds items i)
 
 -- the first `count` items, of which there are no more than 256
-abbrev pub filledOf : ExtremePointSet → List Kind → List Item → ℕ → Filled
+abbrev pub filledOf : ExtremePointSet → List Kind → List Instance → ℕ → Filled
 filledOf s kinds items count = filledBy s kinds items (heldIn count)

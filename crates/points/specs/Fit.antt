@@ -10,13 +10,10 @@ use lib.Ieee.{Float, binary64, ofBits, lt, le}
 use Rattle.floats.specs.Ops.{x, y, z, _⊕_, _⊖_}
 use Rattle.measures.specs.declared.Container.{Container}
 use Rattle.points.specs.declared.Room.{Room}
-use Rattle.points.specs.declared.ExtremePointSet.{ExtremePointSet}
+use Rattle.point_set.specs.declared.ExtremePointSet.{ExtremePointSet}
 use Rattle.points.specs.All.{all, all-false}
-use Rattle.points.specs.Triples.{three, sum3}
-
--- 01: "With E = 1e-9"
-abbrev pub eps : Float
-eps = ofBits binary64 0x3e112e0be826d695
+use Rattle.point_set.specs.Triples.{three, sum3}
+use Rattle.point_set.specs.Stores.{eps, positionAt, dimensionsAt}
 
 -- ---- 01: "on each axis position ≥ margin − E and position + length ≤ container − margin + E"
 
@@ -49,12 +46,6 @@ apart a b at far =
     || (le (x far) (x b) || (le (y a) (y at) || (le (y far) (y b) || (le (z a) (z at) || le (z far) (z b)))))
 
 -- position and dimensions of placed box i
-abbrev pub positionAt : ExtremePointSet → ℕ → List Float
-positionAt s i = three (s .boxes) (2 * i)
-
-abbrev pub dimensionsAt : ExtremePointSet → ℕ → List Float
-dimensionsAt s i = three (s .boxes) (2 * i + 1)
-
 -- a box with these corners is separated from placed box i
 unfoldable pub separated : ExtremePointSet → List Float → List Float → ℕ → Bool
 separated s at far i =

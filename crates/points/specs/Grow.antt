@@ -7,13 +7,12 @@ use lib.ListN.{set}
 use lib.Ieee.{Float, lt, le}
 use Rattle.floats.specs.Ops.{x, y, z, _⊕_, _⊖_}
 use Rattle.measures.specs.declared.Container.{Container}
-use Rattle.points.specs.declared.Label.{Label}
+use Rattle.point_set.specs.declared.Label.{Label}
 use Rattle.points.specs.declared.Corners.{Corners}
-use Rattle.points.specs.declared.ExtremePointSet.{ExtremePointSet}
+use Rattle.point_set.specs.declared.ExtremePointSet.{ExtremePointSet}
 use Rattle.points.specs.All.{all}
-use Rattle.points.specs.Triples.{three, put3}
-use Rattle.points.specs.Fit.{eps}
-use Rattle.points.specs.Choose.{pointAt}
+use Rattle.point_set.specs.Triples.{three, put3}
+use Rattle.point_set.specs.Stores.{eps, pointAt}
 
 -- ---- which new points are kept
 

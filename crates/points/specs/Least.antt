@@ -10,8 +10,8 @@ use lib.Ieee.{Float}
 use Rattle.floats.specs.Ops.{x, y, z}
 use Rattle.floats.specs.Weak.{Number, Weak, on-weak, lex-weak, true-false}
 use Rattle.points.specs.declared.Choice.{Choice}
-use Rattle.points.specs.Triples.{three}
-use Rattle.points.specs.Choose.{sooner, stepBy, scanBy, scan-found}
+use Rattle.point_set.specs.Triples.{three}
+use Rattle.points.specs.Choose.{sooner, takes, stepBy, scanBy, scan-found}
 
 -- a point without a NaN
 pub record Sound (v : List Float) : Type 0 where
@@ -40,30 +40,26 @@ module _ (passes : ℕ → Bool) (points : List Float) where
 
   step-right : (n : ℕ) (c : Choice) → (c .found ≡ true → c .index < n) → ((j : ℕ) → j < suc n → Sound (three points j)) → Right passes points n c
       → Right passes points (suc n) (stepBy (passes n) (three points n) (three points (c .index)) n c)
-  unfolding stepBy
+  unfolding stepBy takes
   step-right n c w sound h = go (c .found) refl (sooner (three points n) (three points (c .index))) refl (passes n) refl
     where
       Goal : Bool → Bool → Bool → Type 0
-      Goal f s g = Right passes points (suc n) (cond (f && not s) c (cond g (record { found = true; index = n }) c))
+      Goal f s g = let t = not (f && not s) && g in Right passes points (suc n) (record { found = f || t; index = cond t n (c .index) })
 
       itself : (v : Bool) → sooner (three points n) (three points n) ≡ v → v ≡ false
       itself false e = refl
       itself true e = sym e ∙ sooner-weak .asym (three points n) (three points n) e
 
-      keep : c .found ≡ true → sooner (three points n) (three points (c .index)) ≡ false → Right passes points (suc n) c
+      keep : c .found ≡ true → sooner (three points n) (three points (c .index)) ≡ false → Right passes points (suc n) (record { found = true; index = c .index })
       keep f s =
-          record {
-            passing = h .passing;
-            least = λ f. upto (Behind (c .index)) n (h .least f) (λ _. s);
-            absent = λ e. true-false (sym f ∙ e);
-          }
+          record { passing = λ _. h .passing f; least = λ _. upto (Behind (c .index)) n (h .least f) (λ _. s); absent = λ e. true-false e }
 
-      skip : passes n ≡ false → Right passes points (suc n) c
-      skip g =
+      skip : (f : Bool) → c .found ≡ f → passes n ≡ false → Right passes points (suc n) (record { found = f; index = c .index })
+      skip f e g =
           record {
-            passing = h .passing;
-            least = λ f. upto (Behind (c .index)) n (h .least f) (λ e. true-false (sym e ∙ g));
-            absent = λ f. upto (λ j. passes j ≡ false) n (h .absent f) g;
+            passing = λ q. h .passing (e ∙ q);
+            least = λ q. upto (Behind (c .index)) n (h .least (e ∙ q)) (λ p. true-false (sym p ∙ g));
+            absent = λ q. upto (λ j. passes j ≡ false) n (h .absent (e ∙ q)) g;
           }
 
       take : passes n ≡ true → ((j : ℕ) → j < n → Behind n j) → Right passes points (suc n) (record { found = true; index = n })
@@ -81,9 +77,9 @@ module _ (passes : ℕ → Bool) (points : List Float) where
       go : (f : Bool) → c .found ≡ f → (s : Bool) → sooner (three points n) (three points (c .index)) ≡ s → (g : Bool) → passes n ≡ g → Goal f s g
       go true ef false es g eg = keep ef es
       go true ef true es true eg = take eg (λ j l q. behind ef es j l q _ refl)
-      go true ef true es false eg = skip eg
+      go true ef true es false eg = skip true ef eg
       go false ef s es true eg = take eg (λ j l q. true-false (sym q ∙ h .absent ef j l))
-      go false ef s es false eg = skip eg
+      go false ef s es false eg = skip false ef eg
 
   pub scan-right : (n : ℕ) → ((j : ℕ) → j < n → Sound (three points j)) → Right passes points n (scanBy passes points n)
   unfolding scanBy

@@ -1,6 +1,5 @@
 -- The extreme-point placer: the stores, the fit test, the choice of a point, the place call, and what holds of them.
 pub mod All
-pub mod Triples
 pub mod Fit
 pub mod Choose
 pub mod Walls
@@ -9,7 +8,6 @@ pub mod Place
 pub mod Least
 pub mod Clean
 pub mod Reach
-pub mod Boxes
 pub mod Fill
 pub mod Pick
 pub mod Turns

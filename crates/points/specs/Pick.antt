@@ -18,14 +18,16 @@ use Rattle.measures.specs.Faults.{kindFault}
 use Rattle.points.specs.declared.Choice.{Choice}
 use Rattle.points.specs.declared.Room.{Room}
 use Rattle.points.specs.declared.Pick.{Pick}
-use Rattle.points.specs.declared.ExtremePointSet.{ExtremePointSet}
+use Rattle.point_set.specs.declared.ExtremePointSet.{ExtremePointSet}
 use Rattle.points.specs.Walls.{scanOf}
-use Rattle.points.specs.Choose.{pointAt, bestOf}
+use Rattle.point_set.specs.Stores.{pointAt}
+use Rattle.points.specs.Choose.{bestOf}
 use Rattle.points.specs.Clean.{cond-cases}
 use Rattle.floats.specs.Weak.{true-false}
 use Rattle.points.specs.declared.Answer.the-variants.{Stands, NoRoom}
 use Rattle.points.specs.Grow.{settled}
-use Rattle.points.specs.Place.{nowhere, stood, refusalOf, labelOf, placedBy, triedOf}
+use Rattle.point_set.specs.Fresh.{nowhere}
+use Rattle.points.specs.Place.{stood, refusalOf, labelOf, placedBy, triedOf}
 use Rattle.points.specs.Fill.{tooHeavy, Attempt, attemptOf}
 
 abbrev pub slotOf : ℕ → ℕ

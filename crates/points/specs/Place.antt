@@ -16,15 +16,17 @@ use Rattle.measures.specs.declared.Kind.{Kind}
 use Rattle.measures.specs.declared.Container.{Container}
 use Rattle.measures.specs.Orders.{lengthsIn}
 use Rattle.measures.specs.Faults.{kindFault, containerFault}
-use Rattle.points.specs.declared.Label.{Label}
+use Rattle.point_set.specs.declared.Label.{Label}
 use Rattle.points.specs.declared.Choice.{Choice}
-use Rattle.points.specs.declared.ExtremePointSet.{ExtremePointSet}
-use Rattle.points.specs.declared.Fresh.{Fresh}
+use Rattle.point_set.specs.declared.ExtremePointSet.{ExtremePointSet}
+use Rattle.point_set.specs.declared.Fresh.{Fresh}
 use Rattle.points.specs.declared.Tried.{Tried}
 use Rattle.points.specs.declared.Answer.{Answer}
 use Rattle.points.specs.declared.Answer.the-variants.{Stands, NoRoom, Refused}
-use Rattle.points.specs.Triples.{cells, put3}
-use Rattle.points.specs.Choose.{pointAt, bestOf}
+use Rattle.point_set.specs.Triples.{cells, put3}
+use Rattle.point_set.specs.Stores.{pointAt}
+use Rattle.points.specs.Choose.{bestOf}
+use Rattle.point_set.specs.Fresh.{nowhere}
 use Rattle.points.specs.Grow.{settled}
 
 -- what 01's words are for each answer: the box stands; it doesn't fit, which is no refusal; the refusal's number
@@ -37,30 +39,6 @@ abbrev pub stood : Answer → Bool
 stood Stands = true
 stood NoRoom = false
 stood (Refused n) = false
-
--- ---- a fresh state
-
-abbrev pub nowhere : List Float
-nowhere = none ∷ none ∷ none ∷ []
-
-abbrev pub blank : Label
-blank = record { id = 0; instance = 0; mass = none; massed = 0 }
-
--- 01: "The first point is (margin, margin, margin)." Of a refused container there is none, and nothing fits.
-unfoldable pub startOf : Container → Bool → ExtremePointSet
-startOf c fault =
-    record {
-      container = c;
-      live = cond fault 0 1;
-      held = 0;
-      points = put3 (replicate cells none) 0 (c .margin ∷ c .margin ∷ c .margin ∷ []);
-      boxes = replicate cells none;
-      labels = replicate mostBoxes blank;
-    }
-
--- 01: "3 for the container block"
-abbrev pub freshOf : Container → Fresh
-freshOf c = record { refused = when (containerFault c) 3; set = startOf c (containerFault c) }
 
 -- ---- the place call
 

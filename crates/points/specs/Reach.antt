@@ -22,16 +22,18 @@ use Rattle.measures.specs.declared.Kind.{Kind}
 use Rattle.measures.specs.declared.Container.{Container}
 use Rattle.measures.specs.Orders.{lengthsIn}
 use Rattle.measures.specs.Faults.{kindFault, containerFault}
-use Rattle.points.specs.declared.ExtremePointSet.{ExtremePointSet}
+use Rattle.point_set.specs.declared.ExtremePointSet.{ExtremePointSet}
 use Rattle.points.specs.declared.Choice.{Choice}
 use Rattle.points.specs.declared.Tried.{Tried}
 use Rattle.points.specs.declared.Answer.{Answer}
 use Rattle.points.specs.declared.Answer.the-variants.{Stands, NoRoom, Refused}
-use Rattle.points.specs.Triples.{cells, put3-length, put3-keeps}
+use Rattle.point_set.specs.Triples.{cells, put3-length, put3-keeps}
 use Rattle.points.specs.Fit.{fitsAt}
-use Rattle.points.specs.Choose.{sooner, pointAt, bestOf, scan-found}
+use Rattle.point_set.specs.Stores.{pointAt}
+use Rattle.points.specs.Choose.{sooner, bestOf, scan-found}
 use Rattle.points.specs.Grow.{settled}
-use Rattle.points.specs.Place.{nowhere, blank, startOf, freshOf, overCounts, refusalOf, labelOf, placedBy, triedOf, stood}
+use Rattle.point_set.specs.Fresh.{nowhere, blank, startOf, freshOf}
+use Rattle.points.specs.Place.{overCounts, refusalOf, labelOf, placedBy, triedOf, stood}
 use Rattle.points.specs.Least.{Sound, Right, scan-right}
 use Rattle.points.specs.Clean.{Clean, tried-clean}
 

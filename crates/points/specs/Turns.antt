@@ -18,20 +18,21 @@ use Rattle.domain.specs.Laws.{or-left, or-right, not-true-of}
 use Rattle.measures.specs.declared.Kind.{Kind}
 use Rattle.measures.specs.Orders.{shareOf, lengthsIn}
 use Rattle.measures.specs.Faults.{kindFault}
-use Rattle.points.specs.declared.Label.{Label}
-use Rattle.points.specs.declared.Item.{Item}
+use Rattle.point_set.specs.declared.Label.{Label}
+use Rattle.boxes.specs.declared.Instance.{Instance}
 use Rattle.points.specs.declared.Pick.{Pick}
 use Rattle.points.specs.declared.Filled.{Filled}
-use Rattle.points.specs.declared.ExtremePointSet.{ExtremePointSet}
-use Rattle.points.specs.Triples.{three, three-other}
+use Rattle.point_set.specs.declared.ExtremePointSet.{ExtremePointSet}
+use Rattle.point_set.specs.Triples.{three, three-other}
 use Rattle.points.specs.Fit.{roomOf}
 use Rattle.points.specs.Choose.{bestOf, scan-found}
 use Rattle.points.specs.Walls.{Walled, wallsOf, walls-walled, putWalls, put-walled, scanOf, walled-best}
 use Rattle.points.specs.Grow.{putBox, settled, stockOf}
 use Rattle.points.specs.Place.{overCounts, within-counts, refusalOf, labelOf, stood}
-use Rattle.points.specs.Boxes.{noLabel, labelAt, heldIn, massWith, massBelow, totalMass}
+use Rattle.point_set.specs.Boxes.{noLabel, labelAt, heldIn, massWith, massBelow, totalMass}
 use Rattle.points.specs.Clean.{cond-cases, stock-few}
-use Rattle.points.specs.Fill.{noKind, noItem, kindIn, tooHeavy, Attempt, attemptOf, afterAttempt, turnOf, filledBy}
+use Rattle.boxes.specs.Listing.{noInstance}
+use Rattle.points.specs.Fill.{noKind, kindIn, tooHeavy, Attempt, attemptOf, afterAttempt, turnOf, filledBy}
 use Rattle.points.specs.Pick.{slotOf, leftOut, pickBy, pickOf, pickedOf, pick-same, pick-index, Agrees, attempt-agrees, attempt-refused}
 
 -- ---- what the loop keeps of a state: counts within their bounds, the walls of its boxes, and their mass
@@ -135,8 +136,8 @@ turn-refused f instance other e =
     (cond-same (tooHeavy (f .next .container .limit) (totalMass (f .next)) other) f)
 
 -- the fill after one item more
-pub fill-more : (s : ExtremePointSet) (kinds : List Kind) (items : List Item) (i : ℕ) (f : Filled) → f ≡ filledBy s kinds items i
-    → filledBy s kinds items (i + 1) ≡ turnOf (kindIn kinds (getD items i noItem .kind)) (getD items i noItem .instance) f
+pub fill-more : (s : ExtremePointSet) (kinds : List Kind) (items : List Instance) (i : ℕ) (f : Filled) → f ≡ filledBy s kinds items i
+    → filledBy s kinds items (i + 1) ≡ turnOf (kindIn kinds (getD items i noInstance .kind)) (getD items i noInstance .instance) f
 unfolding filledBy
 fill-more s kinds items i f e = rw (add-one, ← e)
 
@@ -145,7 +146,7 @@ refusal-over : (s : ExtremePointSet) (kind : Kind) → overCounts (s .live) (s .
 unfolding refusalOf
 refusal-over s kind e = rw e (refuses-first 2 _ refl)
 
-pub fill-over : (s : ExtremePointSet) (kinds : List Kind) (items : List Item) (n : ℕ) → overCounts (s .live) (s .held) ≡ true → filledBy s kinds items n ≡ record { next = s; orientations = replicate mostBoxes 0 }
+pub fill-over : (s : ExtremePointSet) (kinds : List Kind) (items : List Instance) (n : ℕ) → overCounts (s .live) (s .held) ≡ true → filledBy s kinds items n ≡ record { next = s; orientations = replicate mostBoxes 0 }
 unfolding filledBy
 fill-over s kinds items zero e = refl
 fill-over s kinds items (suc n) e = rw (fill-over s kinds items n e) (turn-refused _ _ _ (refusal-over s _ e))

@@ -12,11 +12,12 @@ use Rattle.floats.specs.Ops.{none}
 use Rattle.domain.specs.Bounds.{mostBoxes}
 use Rattle.points.specs.declared.Choice.{Choice}
 use Rattle.points.specs.declared.Room.{Room}
-use Rattle.points.specs.declared.ExtremePointSet.{ExtremePointSet}
+use Rattle.point_set.specs.declared.ExtremePointSet.{ExtremePointSet}
 use Rattle.points.specs.All.{all, all-same}
-use Rattle.points.specs.Triples.{cells, three, put3, sum3, put3-length, three-same, three-other}
+use Rattle.point_set.specs.Triples.{cells, three, put3, sum3, put3-length, three-same, three-other}
 use Rattle.points.specs.Fit.{roomOf, inside, apart, separated, fitsAt, farWall, nearWall, clear}
-use Rattle.points.specs.Choose.{scanBy, bestOf, pointAt, scan-same}
+use Rattle.point_set.specs.Stores.{pointAt}
+use Rattle.points.specs.Choose.{scanBy, bestOf, scan-same}
 
 -- the walls of box i stored
 unfoldable pub putWalls : List Float → List Float → ℕ → Float → List Float

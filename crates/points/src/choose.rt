@@ -1,19 +1,20 @@
 // The choice of a point: one scan over the stored points.
 ghost use mathlib.Core.Path.{_≡_};
+ghost use mathlib.Core.Bool.{cond};
 ghost use Prim.Native.Nat.{_≤_, _<_};
 ghost use Rattle.domain.specs.Bounds.{mostBoxes};
-ghost use Rattle.points.specs.Triples.{mostPoints, three};
-ghost use Rattle.points.specs.Choose.{sooner, stepBy, bestOf};
+ghost use Rattle.point_set.specs.Triples.{mostPoints, three};
+ghost use Rattle.points.specs.Choose.{sooner, takes, bestOf};
 ghost use Rattle.points.specs.Walls.{passesBy, scanOf};
-use crate::CELLS;
 use crate::Choice;
-use crate::ExtremePointSet;
-use crate::POINTS;
 use crate::Room;
 use crate::fit::fit;
 use crate::fit::room_of;
 use crate::triples::triple_at;
 use crate::walls::walls_of;
+use point_set::CELLS;
+use point_set::ExtremePointSet;
+use point_set::POINTS;
 
 // By z, then y, then x; where a comparison has no answer the two count as equal.
 fn sooner(v: [f64; 3], w: [f64; 3]) -> bool
@@ -22,9 +23,9 @@ fn sooner(v: [f64; 3], w: [f64; 3]) -> bool
     (v[2] < w[2]) | (!(w[2] < v[2]) & ((v[1] < w[1]) | (!(w[1] < v[1]) & (v[0] < w[0]))))
 }
 
-// Point i, with the choice so far. A point that does not stand before it is not tested. The hints only save time: each is
-// the box that blocked the point the last time.
-fn step(
+// Whether point i takes the place of the choice so far, which is point k if one was found. A point that does not stand before
+// it is not tested. The hints only save time: each is the box that blocked the point the last time.
+fn takes(
     points: &[f64; CELLS],
     walls: &[f64; CELLS],
     held: usize,
@@ -32,27 +33,29 @@ fn step(
     size: [f64; 3],
     hints: &mut [usize; POINTS],
     i: usize,
-    c: Choice,
-) -> Choice
-    requires { ⌜ (held ≤ mostBoxes) × (i < mostPoints) × (c .index < mostPoints) ⌝ }
-    ensures { λ r. ⌜ r ≡ stepBy (passesBy room (now (walls .entry)) held (three (now (points .entry)) i) size) (three (now (points .entry)) i) (three (now (points .entry)) (c .index)) i c ⌝ }
+    found: bool,
+    k: usize,
+) -> bool
+    requires { ⌜ (held ≤ mostBoxes) × (i < mostPoints) × (k < mostPoints) ⌝ }
+    ensures { λ r. ⌜ r ≡ takes (passesBy room (now (walls .entry)) held (three (now (points .entry)) i) size) (three (now (points .entry)) i) (three (now (points .entry)) k) found ⌝ }
 {
-    let k = c.index;
     let v = triple_at(points, i);
     let w = triple_at(points, k);
-    if c.found & !sooner(v, w) {
-        return c;
+    if found & !sooner(v, w) {
+        return false;
     }
     let f = fit(room, walls, held, hints[i], v, size);
     hints[i] = f.block;
-    if f.passes {
-        Choice {
-            found: true,
-            index: i,
-        }
-    } else {
-        c
+    f.passes
+}
+
+fn select(first: bool, i: usize, k: usize) -> usize
+    ensures { λ r. ⌜ r ≡ cond first i k ⌝ }
+{
+    if first {
+        return i;
     }
+    k
 }
 
 // The least of the first `live` points at which a box of these lengths fits.
@@ -68,16 +71,16 @@ pub(crate) fn scan(
     requires { ⌜ (held ≤ mostBoxes) × (live ≤ mostPoints) ⌝ }
     ensures { λ r. ⌜ r ≡ scanOf room (now (walls .entry)) held size (now (points .entry)) live ⌝ }
 {
-    let mut c = Choice {
-        found: false,
-        index: 0,
-    };
+    let mut found = false;
+    let mut index = 0;
     let mut i = 0;
     while i < live {
-        c = step(points, walls, held, room, size, hints, i, c);
+        let t = takes(points, walls, held, room, size, hints, i, found, index);
+        index = select(t, i, index);
+        found = found | t;
         i += 1;
     }
-    c
+    Choice { found, index }
 }
 
 // The least stored point of a state at which a box of these lengths fits.

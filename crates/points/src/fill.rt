@@ -4,24 +4,24 @@ ghost use Prim.Native.Nat.{_+_, _*_, _≤_, _<_};
 ghost use lib.ListN.{length};
 ghost use Rattle.domain.specs.Bounds.{mostKinds, mostBoxes};
 ghost use Rattle.measures.specs.Orders.{shareOf};
-ghost use Rattle.points.specs.Triples.{mostPoints};
+ghost use Rattle.point_set.specs.Triples.{mostPoints};
 ghost use Rattle.points.specs.Fill.{tooHeavy, filledBy};
 ghost use Rattle.points.specs.Turns.{Steady};
 ghost use Rattle.points.specs.Pick.{slotOf, leftOut, pickOf};
-use crate::CELLS;
-use crate::ExtremePointSet;
 use crate::Filled;
-use crate::Item;
-use crate::POINTS;
 use crate::Pick;
 use crate::Room;
-use crate::boxes::mass_with;
 use crate::choose::scan;
 use crate::fit::room_of;
 use crate::grow::settle;
 use crate::label_of;
 use crate::walls::put_walls;
+use boxes::Instance;
 use measures::Kind;
+use point_set::CELLS;
+use point_set::ExtremePointSet;
+use point_set::POINTS;
+use point_set::mass_with;
 
 // Whether a box's mass would bring the total over the limit.
 fn too_heavy(limit: f64, total: f64, kind: Kind) -> bool
@@ -88,7 +88,7 @@ fn pick(
 pub(crate) fn fill_each(
     set: ExtremePointSet,
     kinds: [Kind; domain::MOST_KINDS],
-    items: [Item; domain::MOST_BOXES],
+    items: [Instance; domain::MOST_BOXES],
     n: usize,
     built: [f64; CELLS],
     carried: f64,

@@ -4,15 +4,15 @@ ghost use mathlib.Core.Bool.{_&&_};
 ghost use Prim.Native.Nat.{_+_, _*_, _≤_, _<_};
 ghost use lib.Dec.{eqb};
 ghost use Rattle.domain.specs.Bounds.{mostBoxes};
-ghost use Rattle.points.specs.Triples.{three, sum3};
+ghost use Rattle.point_set.specs.Triples.{three, sum3};
 ghost use Rattle.points.specs.Fit.{roomOf, inside, apart, clear, farWall, nearWall};
-use crate::CELLS;
-use crate::E;
 use crate::Room;
 use crate::Verdict;
-use crate::triples::sum3;
 use crate::triples::triple_at;
 use measures::Container;
+use point_set::CELLS;
+use point_set::E;
+use point_set::sum3;
 
 pub(crate) fn room_of(c: Container) -> Room
     ensures { λ r. ⌜ r ≡ roomOf c ⌝ }

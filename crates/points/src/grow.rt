@@ -2,16 +2,16 @@
 ghost use mathlib.Core.Path.{_≡_};
 ghost use Prim.Native.Nat.{_+_, _*_, _≤_, _<_};
 ghost use Rattle.domain.specs.Bounds.{mostBoxes};
-ghost use Rattle.points.specs.Triples.{mostPoints, three};
+ghost use Rattle.point_set.specs.Triples.{mostPoints, three};
 ghost use Rattle.points.specs.Grow.{endsOf, pastOf, within, buries, free, valid, cornersOf, Stock, added, grown, settled};
-use crate::CELLS;
 use crate::Corners;
-use crate::E;
-use crate::ExtremePointSet;
-use crate::Label;
 use crate::triples::put_triple;
 use crate::triples::triple_at;
 use measures::Container;
+use point_set::CELLS;
+use point_set::E;
+use point_set::ExtremePointSet;
+use point_set::Label;
 
 // Below these a new point must lie on every axis.
 fn ends_of(c: Container) -> [f64; 3]

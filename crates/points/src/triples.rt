@@ -1,17 +1,10 @@
 // Flat stores of triples of floats.
 ghost use mathlib.Core.Path.{_≡_};
 ghost use Prim.Native.Nat.{_<_};
-ghost use Rattle.points.specs.Triples.{mostPoints, three, put3, sum3};
-
-// The sum axis by axis.
-pub(crate) fn sum3(a: [f64; 3], b: [f64; 3]) -> [f64; 3]
-    ensures { λ r. ⌜ r ≡ sum3 a b ⌝ }
-{
-    [a[0] + b[0], a[1] + b[1], a[2] + b[2]]
-}
+ghost use Rattle.point_set.specs.Triples.{mostPoints, three, put3};
 
 // Triple k of a store.
-pub(crate) fn triple_at(v: &[f64; crate::CELLS], k: usize) -> [f64; 3]
+pub(crate) fn triple_at(v: &[f64; point_set::CELLS], k: usize) -> [f64; 3]
     requires { ⌜ k < mostPoints ⌝ }
     ensures { λ r. ⌜ r ≡ three (now (v .entry)) k ⌝ }
 {
@@ -20,7 +13,7 @@ pub(crate) fn triple_at(v: &[f64; crate::CELLS], k: usize) -> [f64; 3]
 }
 
 // Stores a triple as triple k.
-pub(crate) fn put_triple(v: &mut [f64; crate::CELLS], k: usize, t: [f64; 3])
+pub(crate) fn put_triple(v: &mut [f64; point_set::CELLS], k: usize, t: [f64; 3])
     requires { ⌜ k < mostPoints ⌝ }
     ensures { λ _. ⌜ now (v .exit) ≡ put3 (now (v .entry)) k t ⌝ }
 {

@@ -3,11 +3,11 @@ ghost use mathlib.Core.Path.{_≡_};
 ghost use Prim.Native.Nat.{_≤_, _<_};
 ghost use Rattle.domain.specs.Bounds.{mostBoxes};
 ghost use Rattle.points.specs.Walls.{putWalls, wallsOf};
-use crate::CELLS;
 use crate::fit::far_wall;
 use crate::fit::near_wall;
 use crate::triples::put_triple;
 use crate::triples::triple_at;
+use point_set::CELLS;
 
 // Stores the walls of box i.
 pub(crate) fn put_walls(walls: &mut [f64; CELLS], boxes: &[f64; CELLS], i: usize, s: f64)

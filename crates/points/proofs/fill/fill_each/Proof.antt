@@ -11,19 +11,20 @@ use lib.Ieee.{Float}
 use Rattle.measures.specs.declared.Container.{Container}
 use Rattle.measures.specs.declared.Kind.{Kind}
 use Rattle.measures.specs.Orders.{shareOf, lengthsIn}
-use Rattle.points.specs.declared.ExtremePointSet.{ExtremePointSet}
-use Rattle.points.specs.declared.Label.{Label}
+use Rattle.point_set.specs.declared.ExtremePointSet.{ExtremePointSet}
+use Rattle.point_set.specs.declared.Label.{Label}
 use Rattle.points.specs.declared.Room.{Room}
 use Rattle.points.specs.declared.Pick.{Pick}
-use Rattle.points.specs.declared.Item.{Item}
+use Rattle.boxes.specs.declared.Instance.{Instance}
 use Rattle.points.specs.declared.Filled.{Filled}
 use Rattle.domain.specs.Bounds.{mostBoxes}
 use Rattle.points.specs.Fit.{roomOf}
 use Rattle.points.specs.Walls.{putWalls}
 use Rattle.points.specs.Grow.{settled}
 use Rattle.points.specs.Place.{labelOf}
-use Rattle.points.specs.Boxes.{labelAt, massWith}
-use Rattle.points.specs.Fill.{noItem, noKind, filledBy}
+use Rattle.point_set.specs.Boxes.{labelAt, massWith}
+use Rattle.boxes.specs.Listing.{noInstance}
+use Rattle.points.specs.Fill.{noKind, filledBy}
 use Rattle.points.specs.Pick.{leftOut, slotOf, pickOf, pickedOf, share-few}
 use Rattle.points.specs.Turns.{Steady, Taken, taken, pickAt, fill-more, turn-left, turn-none, turn-some, picked-index, steady-next}
 use Rattle.points.proofs.fill.fill_each.Statement.{statement}
@@ -51,8 +52,8 @@ At = tie.At-loop Inv-loop μ-loop
 abbrev kinds : At → List Kind
 kinds c = c .before .before .before .args .t2
 
-abbrev item : At → Item
-item c = getD (c .before .before .before .args .t3) (c .loop .i) noItem
+abbrev item : At → Instance
+item c = getD (c .before .before .before .args .t3) (c .loop .i) noInstance
 
 abbrev so-far : At → Filled
 so-far c = record { next = c .loop .q; orientations = c .loop .orientations }

@@ -1,0 +1,3 @@
+-- 01's measured examples.
+pub mod Parts
+pub mod Table
