@@ -1,17 +1,18 @@
 -- The listing as a store of boxes.
-use mathlib.Core.Path.{_≡_, refl, _∙_}
+use mathlib.Core.Path.{_≡_, refl, sym, _∙_, ap}
 use mathlib.Core.Bool.{Bool, true, false, cond}
 use mathlib.Core.List.{List}
 use mathlib.Core.Logic.{⊎-elim}
 use Prim.Native.Nat.{ℕ, zero, suc, _<_, _≤_}
 use native.Mathlib.Nat.{le-refl, eq-or-lt-of-le, le-of-suc-le-suc}
 use native.Mathlib.Omega.{arith}
-use borrow.Author.Tests.{ltb-true, le-ltb, lt-ltb}
+use borrow.Author.Tests.{ltb-true, ltb-false, le-ltb, lt-ltb}
 use lib.Dec.{ltb}
-use lib.ListN.{length, getD, set, replicate, length-set, length-replicate}
+use lib.ListN.{length, getD, set, replicate, length-set, length-replicate, List·getD-eq-default}
 use lib.Seq.{getD-set-same, getD-set-other}
-use Rattle.domain.specs.Bounds.{mostBoxes}
+use Rattle.domain.specs.Bounds.{mostKinds, mostBoxes}
 use Rattle.measures.specs.declared.Kind.{Kind}
+use Rattle.sheet.specs.Sheets.{noKind, quantityOf}
 use Rattle.boxes.specs.declared.Instance.{Instance}
 use Rattle.boxes.specs.Turns.{turnOf}
 
@@ -23,6 +24,14 @@ noBoxes = replicate mostBoxes noInstance
 
 unfoldable pub atMostAll : ℕ → ℕ
 atMostAll n = cond (ltb n mostBoxes) n mostBoxes
+
+-- a kind's place in the store, and the last place for one past it
+unfoldable pub inStore : ℕ → ℕ
+inStore k = cond (ltb k mostKinds) k 63
+
+-- how many boxes the kind at this place has; a kind past the store has none
+unfoldable pub quantityAt : ℕ → ℕ → ℕ
+quantityAt k quantity = cond (ltb k mostKinds) quantity 0
 
 -- boxes 0, 1, .. below n, in a store of so many as there can be
 unfoldable pub listed : (ℕ → Instance) → ℕ → List Instance
@@ -61,3 +70,19 @@ listed-at box (suc n) t h l =
     (λ e. rw e (getD-set-same (listed box n) n (box n) noInstance (rw (listed-length box n) h)))
     (λ m. getD-set-other (listed box n) n t (box n) noInstance (λ e. omega arith) ∙ listed-at box n t (omega arith) m)
     (eq-or-lt-of-le (le-of-suc-le-suc l))
+
+-- box t of a listing is the box of turn t
+pub listing-at : (kinds : List Kind) (n t : ℕ) → n ≤ mostBoxes → t < n → getD (listingOf kinds n) t noInstance ≡ turnOf kinds t
+unfolding listingOf
+listing-at kinds n t h l = rw (all-of-few n h) (listed-at (turnOf kinds) n t h l)
+
+-- what is read within the store is what the kind has
+pub quantity-read : (kinds : List Kind) (k : ℕ) → length kinds ≡ mostKinds → quantityAt k (getD kinds (inStore k) noKind .quantity) ≡ quantityOf kinds k
+unfolding quantityAt inStore quantityOf
+quantity-read kinds k long = go (ltb k mostKinds) refl
+  where
+    go : (b : Bool) → ltb k mostKinds ≡ b → cond b (getD kinds (cond b k 63) noKind .quantity) 0 ≡ getD kinds k noKind .quantity
+    go true e = refl
+    go false e =
+        let l = ltb-false k mostKinds e in
+        sym (ap (λ (x : Kind). x .quantity) (List·getD-eq-default kinds noKind (omega arith)))

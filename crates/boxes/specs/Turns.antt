@@ -84,7 +84,7 @@ module _ (kinds : List Kind) (m : ℕ) (some : (k : ℕ) → k < m → 0 < quant
   turn-right (suc t) h = next-right t (turnOf kinds t) h (turn-right t (omega arith))
 
 -- one number is below another, or it is not
-by-order : {P : Type 0} (a b : ℕ) → (a < b → P) → (b ≤ a → P) → P
+pub by-order : {P : Type 0} (a b : ℕ) → (a < b → P) → (b ≤ a → P) → P
 by-order {P} a b f g = go (ltb a b) refl
   where
     go : (t : Bool) → ltb a b ≡ t → P

@@ -2,10 +2,9 @@
 // (packing_utils.rs, `build_instances`; extreme_point.rs, the loops that open `run_ep_packing`).
 ghost use mathlib.Core.Path.{_≡_};
 ghost use Prim.Native.Nat.{_<_};
-ghost use Rattle.domain.specs.Bounds.{mostBoxes};
-ghost use Rattle.sheet.specs.Sheets.{quantityOf};
+ghost use Rattle.domain.specs.Bounds.{mostKinds, mostBoxes};
 ghost use Rattle.boxes.specs.Turns.{nextTurn};
-ghost use Rattle.boxes.specs.Listing.{atMostAll, noBoxes, listingOf};
+ghost use Rattle.boxes.specs.Listing.{inStore, quantityAt, atMostAll, noBoxes, listingOf};
 use measures::Kind;
 
 // One box: its kind's place in the order, and which one of that kind it is.
@@ -14,13 +13,22 @@ pub struct Instance {
     pub instance: u32,
 }
 
-// How many boxes a kind has; a kind past the store has none.
-fn quantity_at(kinds: [Kind; domain::MOST_KINDS], k: usize) -> u32
-    ensures { λ r. ⌜ r ≡ quantityOf kinds k ⌝ }
+// A kind's place in the store, and the last place for one past it.
+fn in_store(k: usize) -> usize
+    ensures { λ r. ⌜ (r ≡ inStore k) × (r < mostKinds) ⌝ }
 {
     if k < domain::MOST_KINDS {
-        let kind = kinds[k];
-        return kind.quantity;
+        return k;
+    }
+    domain::MOST_KINDS - 1
+}
+
+// How many boxes the kind at this place has, if it is in the store; a kind past it has none.
+fn quantity_at(k: usize, quantity: u32) -> u32
+    ensures { λ r. ⌜ r ≡ quantityAt k quantity ⌝ }
+{
+    if k < domain::MOST_KINDS {
+        return quantity;
     }
     0
 }
@@ -75,8 +83,10 @@ pub fn listing(kinds: [Kind; domain::MOST_KINDS], n: usize) -> [Instance; domain
     let mut t = 0;
     while t < most {
         boxes[t] = u;
-        let quantity = quantity_at(kinds, u.kind);
-        u = next_turn(u, quantity);
+        let at = u.kind;
+        let k = in_store(at);
+        let kind = kinds[k];
+        u = next_turn(u, quantity_at(at, kind.quantity));
         t += 1;
     }
     boxes

@@ -59,20 +59,16 @@ pub record Table : Type 0 where
   pub p1 :
       (lengthsIn (kind any 1 (at (whole 1) (whole 2) (whole 3))) 3 ≡ at (whole 2) (whole 3) (whole 1))
       × (lengthsIn (kind any 1 (at (whole 1) (whole 2) (whole 3))) 6 ≡ at (whole 1) (whole 2) (whole 3))
-
   -- "P2 After a 4-cube, a fixed 7×3×3 goes to (0,4,0)."
   pub p2 : try (try (fresh ten) four .next) (at (whole 7) (whole 3) (whole 3)) .at ≡ at none (whole 4) none
-
   -- "P3 Two 6-cubes: both placers take one; three points stay."
   pub p3 :
       ((try (fresh ten) six .answer ≡ Stands) × (try (try (fresh ten) six .next) six .answer ≡ NoRoom) × (try (try (fresh ten) six .next) six .next .live ≡ 3))
       × ((first ten (kind any 2 six) .placed ≡ true) × (second ten (kind any 2 six) .placed ≡ false))
-
   -- "P4 Two 4-cubes: spacing 2 puts the second at (6,0,0); 2.5 refuses it."
   pub p4 :
       (try (try (fresh (apartBy (whole 2))) four .next) four .at ≡ at (whole 6) none none)
       × (try (try (fresh (apartBy (decimal 5 2))) four .next) four .answer ≡ NoRoom)
-
   -- "P5 Three 0.1-cubes, container 0.3×0.1×0.1: extreme points three, layers two."
   pub p5 :
       ((try (fresh narrow) (cube tenth) .answer ≡ Stands)
@@ -81,23 +77,18 @@ pub record Table : Type 0 where
       × ((first narrow (kind any 3 (cube tenth)) .placed ≡ true)
       × (second narrow (kind any 3 (cube tenth)) .placed ≡ true)
       × (third narrow (kind any 3 (cube tenth)) .placed ≡ false))
-
   -- "P6 Kind 1×2×3, any, first `place_best`: index 3."
   pub p6 : getD (first ten (kind any 1 (at (whole 1) (whole 2) (whole 3))) .next .lines) 0 blankLine .orientation ≡ 3
-
   -- "P7 A line at x = −0.00000001 is inside, −0.00000002 outside."
   pub p7 : (findings (one (neg (decimal 1 100000000))) ≡ []) × (findings (one (neg (decimal 2 100000000))) ≡ 6 ∷ 0 ∷ 7 ∷ 0 ∷ 0 ∷ [])
-
   -- "P8 A complete kind listed unplaced is finding 11; a short one listed twice, one such finding."
   pub p8 : (findings (listing 1 (7 ∷ [])) ≡ 11 ∷ 7 ∷ 0 ∷ 0 ∷ 0 ∷ []) × (findings (listing 2 (7 ∷ 7 ∷ [])) ≡ 11 ∷ 7 ∷ 0 ∷ 0 ∷ 0 ∷ [])
-
   -- "P9 Spacing 6: gaps 3, 4, 0 give distance 5; 1, 1, 0 give bits 3FF6A09E667F3BCD."
   pub p9 :
       (verdictOf (box (cube none) unit) (box (at (whole 4) (whole 5) (whole 1)) (at (whole 5) (whole 6) (whole 2))) (whole 6) (toleranceOf (cube (whole 10)))
       ≡ TooClose (whole 5))
       × (verdictOf (box (cube none) unit) (box (at (whole 2) (whole 2) (whole 1)) (at (whole 3) (whole 3) (whole 2))) (whole 6) (toleranceOf (cube (whole 10)))
       ≡ TooClose (ofBits binary64 0x3FF6A09E667F3BCD))
-
   -- "repeated 1 7 0", "too-close 0 1 3FE0000000000000 3FF0000000000000", "missing 7"
   pub worked-findings : findings worked ≡ 3 ∷ 1 ∷ 7 ∷ 0 ∷ 0 ∷ 8 ∷ 0 ∷ 1 ∷ 0x3FE0000000000000 ∷ 0x3FF0000000000000 ∷ 10 ∷ 7 ∷ 0 ∷ 0 ∷ 0 ∷ []
 

@@ -3,3 +3,4 @@ pub mod Spot
 pub mod Stand
 pub mod Best
 pub mod Fill
+pub mod Again

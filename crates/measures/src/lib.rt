@@ -28,7 +28,7 @@ pub struct Container {
 }
 
 // The six axis orders, and by rule the rows of them that it allows and how many these are.
-const ORDERS: [[usize; 3]; 6] = [
+const ORDERS: [[u8; 3]; 6] = [
     [0, 1, 2],
     [0, 2, 1],
     [1, 0, 2],
@@ -37,9 +37,9 @@ const ORDERS: [[usize; 3]; 6] = [
     [2, 1, 0],
 ];
 
-const SHARES: [[usize; 6]; 3] = [[0, 1, 2, 3, 4, 5], [0, 2, 0, 0, 0, 0], [0, 0, 0, 0, 0, 0]];
+const SHARES: [[u8; 6]; 3] = [[0, 1, 2, 3, 4, 5], [0, 2, 0, 0, 0, 0], [0, 0, 0, 0, 0, 0]];
 
-const COUNTS: [usize; 3] = [6, 2, 1];
+const COUNTS: [u8; 3] = [6, 2, 1];
 
 // The rule's line in the tables. No accepted kind has a rule past 2; such a one counts as fixed.
 fn row(rule: u8) -> usize
@@ -55,7 +55,7 @@ fn row(rule: u8) -> usize
 pub fn allowed_orientations(rule: u8) -> usize
     ensures { λ r. ⌜ r ≡ length (shareOf rule) ⌝ }
 {
-    COUNTS[row(rule)]
+    COUNTS[row(rule)] as usize
 }
 
 // The row of the rule's orientation i.
@@ -63,7 +63,7 @@ fn share(rule: u8, i: usize) -> usize
     requires { ⌜ i < length (shareOf rule) ⌝ }
     ensures { λ r. ⌜ (r ≡ getD (shareOf rule) i 0) × (r < 6) ⌝ }
 {
-    SHARES[row(rule)][i]
+    SHARES[row(rule)][i] as usize
 }
 
 // The axis on place j of row k.
@@ -71,7 +71,7 @@ fn axis(k: usize, j: usize) -> usize
     requires { ⌜ (k < 6) × (j < 3) ⌝ }
     ensures { λ r. ⌜ (r ≡ getD (getD orders k []) j 0) × (r < 3) ⌝ }
 {
-    ORDERS[k][j]
+    ORDERS[k][j] as usize
 }
 
 // The lengths of a box in an orientation; unrotated where the index is past the rule's list.

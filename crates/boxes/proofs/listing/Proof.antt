@@ -4,16 +4,17 @@ use mathlib.Core.Path.{_≡_, refl, sym, _∙_}
 use native.Mathlib.Omega.{arith}
 use native.Mathlib.Numerals.{add-one}
 use Rattle.domain.specs.Bounds.{mostBoxes}
+use Rattle.sheet.specs.Sheets.{quantityOf}
 use Rattle.boxes.specs.Turns.{turnOf, turn-early}
-use Rattle.boxes.specs.Listing.{listed, listingOf, listed-length, at-most-all}
+use Rattle.boxes.specs.Listing.{listed, listingOf, listed-length, at-most-all, quantity-read}
 use Rattle.boxes.proofs.listing.Statement.{statement}
 use Rattle.boxes.proofs.listing.Tie as tie
 
 abbrev Inv-loop : tie.InvT-loop
-Inv-loop kinds n most boxes₀ u₀ t₀ boxes u t = (t ≤ most) × (boxes ≡ listed (turnOf kinds) t) × (u ≡ turnOf kinds t)
+Inv-loop n kinds most boxes₀ u₀ t₀ boxes u t = (t ≤ most) × (boxes ≡ listed (turnOf kinds) t) × (u ≡ turnOf kinds t)
 
 abbrev μ-loop : tie.MeasureT-loop
-μ-loop kinds n most boxes₀ u₀ t₀ boxes u t = most - t
+μ-loop n kinds most boxes₀ u₀ t₀ boxes u t = most - t
 
 loop-holds : tie.Need-loop-holds Inv-loop μ-loop
 unfolding turnOf listed
@@ -29,19 +30,28 @@ mul-boxes c = let h = room c in record { fits = omega arith }
 array-set-from-boxes : tie.Need-array-set-from-boxes Inv-loop μ-loop
 array-set-from-boxes c = room c
 
+mul-kind : tie.Need-mul-kind Inv-loop μ-loop
+mul-kind c = let h = c .in-store .ensures .1 in record { fits = omega arith }
+
+array-copy-out-kind : tie.Need-array-copy-out-kind Inv-loop μ-loop
+array-copy-out-kind c = c .in-store .ensures .1
+
 next-turn-requires : tie.Need-next-turn-requires Inv-loop μ-loop
 next-turn-requires c κs =
-    let l = c .before .before .loop in
-    let a = c .before .before .before .before .before .args in
-    let h = room (c .before) in
-    let e = turn-early (a .kinds) (l .t) in
+    let l = c .before .before .before .before .loop in
+    let a = c .before .before .before .before .before .before .before .args in
+    let h = room (c .before .before .before) in
+    let e = turn-early (a .t1) (l .t) in
     rw (l .inv .2) (omega arith)
 
 loop-again : tie.Need-loop-again Inv-loop μ-loop
 unfolding turnOf listed
 loop-again c =
-    let l = c .before .before .before .loop in
-    (omega arith, rw (add-one (l .t), l .inv .1, l .inv .2), c .next-turn .ensures ∙ rw (add-one (l .t), c .before .quantity-at .ensures, l .inv .2))
+    let l = c .before .before .before .before .before .loop in
+    let a = c .before .before .before .before .before .before .before .before .args in
+    let q : c .before .quantity-at .result ≡ quantityOf (a .t1) (l .u .kind) =
+    c .before .quantity-at .ensures ∙ rw (c .before .before .before .in-store .ensures .0) (quantity-read (a .t1) (l .u .kind) (c .before .before .before .before .before .before .before .before .good .0 .1 .0 .1)) in
+    (omega arith, rw (add-one (l .t), l .inv .1, l .inv .2), c .next-turn .ensures ∙ rw (add-one (l .t), q, l .inv .2))
 
 returns : tie.Need-returns Inv-loop μ-loop
 unfolding listingOf
@@ -58,6 +68,9 @@ listing-spec =
     loop-holds
     mul-boxes
     array-set-from-boxes
+    (λ c κs. tt)
+    mul-kind
+    array-copy-out-kind
     (λ c κs. tt)
     next-turn-requires
     (λ c. omega arith)

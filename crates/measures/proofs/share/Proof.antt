@@ -12,14 +12,17 @@ use Rattle.measures.proofs.share.Tie as tie
 mul-result : tie.Need-mul-result
 mul-result c = rw (c .row .ensures) (let h = row-bound (c .before .args .rule) in omega arith)
 
-mul-result-2 : tie.Need-mul-result-2
-mul-result-2 c = let h = share-few (c .before .args .rule) in omega arith
-
 index-1-result : tie.Need-index-1-result
 index-1-result c = rw (c .row .ensures) (row-bound (c .before .args .rule))
 
 index-2-result : tie.Need-index-2-result
 index-2-result c = let h = share-few (c .before .args .rule) in omega arith
+
+cast-result : tie.Need-cast-result
+cast-result c =
+    let rule = c .before .before .args .rule in
+    let i = c .before .before .args .i in
+    rw (c .before .row .ensures) (let h = share-bound rule i in let e = shared rule i (c .before .before .pre) in record { fits = omega arith })
 
 returns : tie.Need-returns
 returns c =
@@ -33,7 +36,7 @@ share-spec =
     (tie.spec
     (λ c κs. search needs)
     mul-result
-    mul-result-2
     index-1-result
     index-2-result
+    cast-result
     returns)

@@ -1,0 +1,8 @@
+-- The extreme-point placer's run: the order of the boxes, and the plan.
+pub mod Stored
+pub mod Order
+pub mod Insert
+pub mod Falling
+pub mod Volumes
+pub mod Runs
+pub mod Reached

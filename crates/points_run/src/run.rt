@@ -1,0 +1,99 @@
+// The run: the boxes placed by falling volume, and the plan that comes of it.
+ghost use mathlib.Core.Path.{_≡_};
+ghost use mathlib.Core.List.{map};
+ghost use Prim.Native.Nat.{_≤_};
+ghost use lib.ListN.{length};
+ghost use Rattle.domain.specs.Bounds.{mostBoxes};
+ghost use Rattle.plans.specs.Plans.{blankLine};
+ghost use Rattle.plans.specs.Hand.{handedOf, slotsOf};
+ghost use Rattle.points_run.specs.Stored.{stored};
+ghost use Rattle.points_run.specs.Runs.{lineOf, planFrom, epPackingOf};
+use crate::order::falling_boxes;
+use measures::Container;
+use measures::Kind;
+use plans::Packed;
+use plans::Plan;
+use points::Filled;
+use sheet::Line;
+use sheet::Sheet;
+
+// The lines of the placed boxes, in the order placed.
+fn lines_of(filled: Filled) -> [Line; domain::MOST_LINES]
+    requires { ⌜ filled .next .held ≤ mostBoxes ⌝ }
+    ensures { λ r. ⌜ r ≡ stored blankLine (lineOf filled) (filled .next .held) ⌝ }
+{
+    let next = filled.next;
+    let orientations = filled.orientations;
+    let labels = next.labels;
+    let boxes = next.boxes;
+    let n = next.held;
+    let none = Line {
+        id: 0,
+        instance: 0,
+        orientation: 0,
+        bin: 0,
+        at: [0.0, 0.0, 0.0],
+    };
+    let mut lines = [none; domain::MOST_LINES];
+    let mut i = 0;
+    while i < n {
+        let label = labels[i];
+        let at = [boxes[6 * i], boxes[6 * i + 1], boxes[6 * i + 2]];
+        lines[i] = Line {
+            id: label.id,
+            instance: label.instance,
+            orientation: orientations[i],
+            bin: 0,
+            at,
+        };
+        i += 1;
+    }
+    lines
+}
+
+// The plan of a fill that n boxes were considered for.
+fn plan_of(
+    container: Container,
+    kinds: [Kind; domain::MOST_KINDS],
+    m: usize,
+    filled: Filled,
+    n: u64,
+) -> Plan
+    requires { ⌜ filled .next .held ≤ mostBoxes ⌝ }
+    ensures { λ r. ⌜ r ≡ planFrom container kinds m filled n ⌝ }
+{
+    let lines = lines_of(filled);
+    let next = filled.next;
+    let size = container.size;
+    let utilization = point_set::total_volume(next) / measures::measure(size);
+    plans::planned(kinds, m, lines, next.held, n, utilization)
+}
+
+// All boxes of an order, largest first, as far as `consider` goes: each at the least point that takes it.
+pub fn ep_packing(order: Sheet, consider: u64) -> Plan
+    ensures { λ r. ⌜ r ≡ epPackingOf order consider ⌝ }
+{
+    let refused = sheet::sheet_refusal(order);
+    if refused != 0 {
+        return plans::refused_plan(refused);
+    }
+    let many = order.many;
+    let m = many.kinds;
+    let kinds = order.kinds;
+    let container = order.container;
+    let all = sheet::boxes_in(kinds, m);
+    let n = plans::smaller(consider, all);
+    let boxes = falling_boxes(kinds, all as usize);
+    let fresh = point_set::new(container);
+    let set = fresh.set;
+    let filled = points::fill_in_order(set, kinds, boxes, n as usize);
+    plan_of(container, kinds, m, filled, n)
+}
+
+// The same into lent words, six to a line.
+pub fn run_ep_packing(order: Sheet, consider: u64, slots: &mut [u64]) -> Packed
+    ensures { λ r. ⌜ (r ≡ handedOf (epPackingOf order consider) (length (now (slots .entry)))) × (now (slots .exit) ≡ slotsOf (epPackingOf order consider) (now (slots .entry))) ⌝ }
+{
+    let p = ep_packing(order, consider);
+    plans::hand_out(p, slots)
+}
