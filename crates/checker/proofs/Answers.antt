@@ -1,7 +1,7 @@
--- The three answers of `check_packing`: a refused sheet, no room, and the findings listed.
-use mathlib.Core.Path.{_≡_, refl, _∙_}
+-- The four answers of `check_packing`: a refused sheet, no findings, no room, and the findings listed.
+use mathlib.Core.Path.{_≡_, refl, ap, _∙_}
 use mathlib.Core.Bool.{false, true}
-use mathlib.Core.List.{List, _++_}
+use mathlib.Core.List.{List, [], _∷_, _++_}
 use Prim.Native.Nat.{ℕ, zero, suc, _+_, _/_, _<_, _≤_}
 use native.Mathlib.Nat.{zero-add}
 use native.Mathlib.Omega.{arith}
@@ -22,6 +22,15 @@ module _ (s : Sheet) (o : List ℕ) where
   unfolding checkedOf cellsOf checkRefusal countOf orElse
   answer-refused zero e n = absurd (n refl)
   answer-refused (suc r) e n = rw (← e, ne-eqb (suc r) 0 n) (refl, refl)
+
+  pub answer-none : {x x′ : List ℕ} {n : ℕ} → sheetRefusal s ≡ 0 → Wrote x 0 (findings s) n x′ → n ≡ 0
+      → (record { refused = 0; count = 0 } ≡ checkedOf s o) × (o ≡ cellsOf s o)
+  unfolding checkedOf cellsOf checkRefusal countOf orElse
+  answer-none {x} {x′} {n} e w h = go (findings s) refl
+    where
+      go : (ws : List ℕ) → findings s ≡ ws → (record { refused = 0; count = 0 } ≡ checkedOf s o) × (o ≡ cellsOf s o)
+      go [] k = rw (e, k, le-ltb (length o) 0 (omega arith)) (refl, refl)
+      go (v ∷ ws) k = let l : length (findings s) ≡ suc (length ws) = ap (λ (q : List ℕ). length q) k in absurd (omega (arith, w .next))
 
   pub answer-room : {x x′ : List ℕ} {n : ℕ} → sheetRefusal s ≡ 0 → Wrote x 0 (findings s) n x′ → length o < n
       → (record { refused = 6; count = n / 5 } ≡ checkedOf s o) × (o ≡ cellsOf s o)

@@ -49,7 +49,7 @@ fn run(s: Sheet, t: Table, out: &mut [u64]) -> usize
 }
 
 // Checks a load sheet. The findings go to the lent cells, five words each; where they have no room, nothing is written and their
-// number is returned with refusal 6.
+// number is returned with refusal 6. They are counted first, and a sheet without findings is not gone through again.
 pub fn check_packing(s: Sheet, out: &mut [u64]) -> Checked
     ensures { λ r. ⌜ (r ≡ checkedOf s (now (out .entry))) × (now (out .exit) ≡ cellsOf s (now (out .entry))) ⌝ }
 {
@@ -60,6 +60,12 @@ pub fn check_packing(s: Sheet, out: &mut [u64]) -> Checked
     let t = table::table_of(s);
     let mut none = [0u64; 1];
     let n = run(s, t, &mut none);
+    if n == 0 {
+        return Checked {
+            refused: 0,
+            count: 0,
+        };
+    }
     if out.len() < n {
         return Checked {
             refused: 6,

@@ -1,6 +1,3 @@
-The program sheet_fill, proved over a stand-in for crate fill, which is not written yet.
-
-==== crates/sheet_fill/src/main.rt
 // The fill per thousand of a load sheet: a load file on standard input, one line on standard output.
 use libc::STDIN_FILENO;
 use libc::STDOUT_FILENO;

@@ -1,0 +1,131 @@
+// Replays the sample of checks: the findings on a sheet word by word, with room for all of them and for too few.
+use checker::Checked;
+use sheet::Sheet;
+
+// Words lent: 1,700 slots of five, enough for every sheet of the sample but one.
+const WORDS: usize = 8500;
+
+// What stands in lent words that no call is to change.
+const UNTOUCHED: u64 = 11936128518282651045;
+
+// Whether no word from `from` on was changed.
+fn untouched(words: &[u64; WORDS], from: usize) -> bool {
+    let mut same = true;
+    let mut i = from;
+    while i < WORDS {
+        same = same & (words[i] == UNTOUCHED);
+        i += 1;
+    }
+    same
+}
+
+fn word_at(words: &[u64; WORDS], i: usize) -> u64 {
+    if i < WORDS {
+        return words[i];
+    }
+    0
+}
+
+// Whether the first n words are those that stand at `from`.
+fn same_words(b: &[u8], from: usize, words: &[u64; WORDS], n: usize) -> bool {
+    let mut same = true;
+    let mut at = from;
+    let mut i = 0;
+    while i < n {
+        same = same & (vectors::u64_at(b, at) == word_at(words, i));
+        at = vectors::past(at, 8);
+        i += 1;
+    }
+    same
+}
+
+// The words of so many findings.
+fn words_of(found: usize) -> usize {
+    if found > 40000 {
+        return 0;
+    }
+    found * 5
+}
+
+// Checks the sheet with room for n words.
+fn checked_in(s: Sheet, out: &mut [u64], n: usize) -> Checked {
+    if n <= out.len() {
+        return checker::check_packing(s, &mut out[..n]);
+    }
+    checker::check_packing(s, out)
+}
+
+// With room for `room` words, which is enough: the findings expected, and the words past them unchanged.
+fn lists(b: &[u8], at: usize, s: Sheet, found: usize, room: usize) -> bool {
+    let listed = vectors::size(vectors::u32_at(b, vectors::past(at, 4)));
+    let mut out = [UNTOUCHED; WORDS];
+    let c = checked_in(s, &mut out, room);
+    let words = same_words(b, vectors::past(at, 8), &out, words_of(listed));
+    (c.refused == 0) & ((c.count == found) & (words & untouched(&out, words_of(found))))
+}
+
+// With too little room: refusal 6, the number of findings, and nothing changed.
+fn refuses(s: Sheet, found: usize, room: usize) -> bool {
+    let mut out = [UNTOUCHED; WORDS];
+    let c = checked_in(s, &mut out, room);
+    (c.refused == 6) & ((c.count == found) & untouched(&out, 0))
+}
+
+// What is expected of the findings stands at `at`.
+fn same_findings(b: &[u8], at: usize, s: Sheet) -> bool {
+    let found = vectors::size(vectors::u32_at(b, at));
+    let n = words_of(found);
+    if n == 0 {
+        return lists(b, at, s, found, 0) & lists(b, at, s, found, WORDS);
+    }
+    if n > WORDS {
+        return refuses(s, found, WORDS);
+    }
+    let exact = lists(b, at, s, found, n) & lists(b, at, s, found, WORDS);
+    exact & refuses(s, found, n - 1)
+}
+
+// What is expected of the fill stands at `at`, at the end.
+fn same_fill(b: &[u8], at: usize, s: Sheet) -> bool {
+    let filled = fill::fill_per_thousand(s);
+    let refused = vectors::u32_at(b, at) == filled.refused;
+    let thousandth = vectors::u64_at(b, vectors::past(at, 4)) == filled.fill;
+    let ends = vectors::past(at, 12) == b.len();
+    refused & (thousandth & ends)
+}
+
+// The place past n words from `at` on.
+fn past_words(at: usize, n: usize) -> usize {
+    if n > 100000 {
+        return at;
+    }
+    vectors::past(at, n * 8)
+}
+
+fn one(b: &[u8]) -> bool {
+    let reading = vectors::sheet_at(b, 0);
+    let s = reading.sheet;
+    let at = vectors::after_bytes(b, 0);
+    let listed = vectors::size(vectors::u32_at(b, vectors::past(at, 4)));
+    let after = past_words(vectors::past(at, 8), words_of(listed));
+    (reading.refused == 0) & (same_findings(b, at, s) & same_fill(b, after, s))
+}
+
+fn all(s: &[u8]) -> vectors::Tally {
+    let n = vectors::u32_at(s, 0);
+    let mut t = vectors::start();
+    let mut i = 0;
+    while i < n {
+        let same = (vectors::tag(s, t) == 11) & one(vectors::body(s, t));
+        t = vectors::counted(s, t, same);
+        i += 1;
+    }
+    t
+}
+
+fn main() {
+    let mut buf = vectors::buffer();
+    let n = io::read_full(0, &mut buf);
+    let t = all(&buf[..n]);
+    vectors::report(b"check", &buf[..n], t);
+}
