@@ -1,0 +1,48 @@
+-- The plan calls: a load file is read as an order, planned, and the planned sheet written as form 1.
+use mathlib.Core.Bool.{Bool, true, false, cond}
+use mathlib.Core.List.{List}
+use Prim.Native.Nat.{ℕ}
+use lib.Dec.{eqb}
+use lib.ListN.{length, set}
+use lib.Ieee.{binary64, toBits}
+use Rattle.sheet.specs.declared.Sheet.{Sheet}
+use Rattle.plans.specs.declared.Plan.{Plan}
+use Rattle.plans.specs.Planned.{plannedSheet}
+use Rattle.load_file.specs.Reading.{readOf}
+use Rattle.load_file.specs.Writing.{writtenOf, bytesAfter}
+use Rattle.waikurpeho.specs.Answer.{answerOf}
+
+-- the planned sheet's length, or the order's refusal, or 6 and the length needed
+unfoldable pub planAnswer : Sheet → Plan → ℕ → ℕ
+planAnswer order plan room =
+    cond (eqb (plan .refused) 0)
+    (answerOf (writtenOf (plannedSheet order plan) room .refused) (writtenOf (plannedSheet order plan) room .length))
+    (answerOf (plan .refused) 0)
+
+-- the lent bytes afterwards
+unfoldable pub planBytes : Sheet → Plan → List ℕ → List ℕ
+planBytes order plan out = cond (eqb (plan .refused) 0) (bytesAfter (plannedSheet order plan) out) out
+
+-- "figures are the boxes considered and the utilization's bits"
+unfoldable pub planFigures : Sheet → Plan → ℕ → List ℕ → List ℕ
+planFigures order plan room old =
+    cond (eqb (plan .refused) 0)
+    (cond (eqb (writtenOf (plannedSheet order plan) room .refused) 0) (set (set old 0 (plan .considered)) 1 (toBits binary64 (plan .utilization))) old)
+    old
+
+-- ---- the same of an order in a load file, "refused whole as the reading call refuses it", for either placer
+abbrev Planner : Type 0
+Planner = Sheet → ℕ → Plan
+
+unfoldable pub orderAnswer : Planner → List ℕ → ℕ → ℕ → ℕ
+orderAnswer planOf file consider room =
+    let order = readOf file .sheet in
+    cond (eqb (readOf file .refused) 0) (planAnswer order (planOf order consider) room) (answerOf (readOf file .refused) 0)
+
+unfoldable pub orderBytes : Planner → List ℕ → ℕ → List ℕ → List ℕ
+orderBytes planOf file consider out =
+    let order = readOf file .sheet in cond (eqb (readOf file .refused) 0) (planBytes order (planOf order consider) out) out
+
+unfoldable pub orderFigures : Planner → List ℕ → ℕ → ℕ → List ℕ → List ℕ
+orderFigures planOf file consider room old =
+    let order = readOf file .sheet in cond (eqb (readOf file .refused) 0) (planFigures order (planOf order consider) room old) old
