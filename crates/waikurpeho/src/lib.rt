@@ -99,7 +99,8 @@ pub extern "C" fn wk_fill(sheet: &[u8], fill: &mut u64) -> u64
     if read.refused != 0 {
         return answer(read.refused, 0);
     }
-    let f = fill::fill_per_thousand(read.sheet);
+    let s = read.sheet;
+    let f = fill::fill_per_thousand(s);
     if f.refused != 0 {
         return answer(f.refused, 0);
     }

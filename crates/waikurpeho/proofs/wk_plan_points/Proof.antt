@@ -14,4 +14,15 @@ returns c =
     (c .answer .ensures ∙ rw (e, t), rw (e, t), rw (e, t))
 
 returns-2 : tie.Need-returns-2
-returns-2 c = ?
+unfolding orderAnswer orderBytes orderFigures
+returns-2 c =
+    let w = c .before .before in
+    let p = w .before .before .before in
+    let l = p .before .before in
+    let e = sym (l .before .before .read-sheet .ensures) in
+    let t = eq-eqb _ _ (l .if1 .left) in
+    let q = p .ep-packing .ensures in
+    (w .write-plan .ensures .0 ∙ rw (e, t, q), w .write-plan .ensures .1 ∙ rw (e, t, q), w .write-plan .ensures .2 ∙ rw (e, t, q))
+
+pub wk-plan-points-spec : {M : Type 1} → statement M
+wk-plan-points-spec = tie.close (tie.spec (λ c κs. search needs) (λ c κs. search needs) returns (λ c κs. search needs) (λ c κs. search needs) (λ c. search needs) returns-2)
