@@ -45,6 +45,8 @@ fn better(b: Best, p: LayerSpot, height: f64, orientation: u32) -> Best
 fn best_of(container: Container, max: [f64; 3], cursor: LayerCursor, kind: Kind, n: u32) -> Best
     ensures { λ r. ⌜ r ≡ bestOf container max cursor kind n ⌝ }
 {
+    let whole = kind.size;
+    let all = measures::all_turned(whole);
     let mut b = Best {
         found: false,
         orientation: 0,
@@ -52,7 +54,7 @@ fn best_of(container: Container, max: [f64; 3], cursor: LayerCursor, kind: Kind,
     };
     let mut i: u32 = 0;
     while i < n {
-        let size = measures::dimensions_for_orientation(kind, i);
+        let size = measures::dimensions_among(&all, whole, kind.rule, i);
         let p = spot(container, max, cursor, size);
         b = better(b, p, size[2], i);
         i += 1;

@@ -1,8 +1,8 @@
 -- The plans of the two runs, refusals included (packing_utils.rs, `layer_fill_in_order` and `layer_place_items`).
-use mathlib.Core.Path.{_≡_, refl, sym, _∙_, ap}
+use mathlib.Core.Path.{_≡_, refl, ap}
 use mathlib.Core.Bool.{Bool, true, false, cond, _||_}
 use mathlib.Core.List.{List}
-use Prim.Native.Nat.{ℕ, zero, suc, _+_, _*_, _<_, _≤_}
+use Prim.Native.Nat.{ℕ, _+_, _*_, _<_, _≤_}
 use native.Mathlib.Nat.{le-refl}
 use native.Mathlib.Omega.{arith}
 use borrow.Author.Tests.{eqb-false, ltb-true, ltb-false, le-ltb, leb-false}
@@ -10,7 +10,7 @@ use lib.Dec.{eqb, ltb}
 use lib.ListN.{getD}
 use Rattle.domain.specs.Bounds.{mostKinds, mostBoxes, mostItems, mostInstances}
 use Rattle.domain.specs.Refusals.{when, orElse, anyBelow, sumBelow}
-use Rattle.domain.specs.Laws.{or-left, or-right, or-else-first, or-else-second, when-none, any-none}
+use Rattle.domain.specs.Laws.{or-left, or-else-first, or-else-second, when-none, any-none}
 use Rattle.measures.specs.declared.Container.{Container}
 use Rattle.measures.specs.declared.Kind.{Kind}
 use Rattle.sheet.specs.declared.Sheet.{Sheet}

@@ -1,6 +1,6 @@
 -- The packing fitness (packing_utils.rs, `packing_fitness`), in the Rust's operation order.
 use mathlib.Core.Path.{_≡_}
-use mathlib.Core.Bool.{Bool, true, false, cond, not, _||_}
+use mathlib.Core.Bool.{cond, not, _||_}
 use Prim.Native.Nat.{ℕ, _≤_}
 use borrow.Author.Tests.{ltb-false}
 use lib.Dec.{eqb, ltb}

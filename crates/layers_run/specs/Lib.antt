@@ -5,7 +5,3 @@ pub mod Fills
 pub mod Instances
 pub mod Seeds
 pub mod Fitness
-pub mod Made
-pub mod Begin
-pub mod Reproduce
-pub mod Seeded

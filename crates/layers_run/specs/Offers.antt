@@ -1,19 +1,19 @@
 -- What the turns of a run offer: a whole order's boxes, or given items.
 use mathlib.Core.Path.{_≡_, refl, _∙_, ap}
-use mathlib.Core.Bool.{Bool, true, false, cond}
+use mathlib.Core.Bool.{Bool, cond}
 use mathlib.Core.List.{List}
 use mathlib.Core.Logic.{⊎-elim}
-use Prim.Native.Nat.{ℕ, zero, suc, _+_, _*_, _/_, _%_, _<_, _≤_}
+use Prim.Native.Nat.{ℕ, zero, suc, _+_, _*_, _/_, _%_, _<_}
 use native.Mathlib.Nat.{eq-or-lt-of-le, le-of-suc-le-suc, not-suc-le-zero}
 use native.Mathlib.Omega.{arith}
 use lib.Dec.{eqb, ltb, leb}
-use lib.ListN.{length, getD, set, replicate, length-set, length-replicate}
+use lib.ListN.{length, getD, set, replicate, length-set}
 use lib.Seq.{getD-set-same, getD-set-other}
 use Rattle.domain.specs.Bounds.{mostKinds, mostBoxes}
 use Rattle.measures.specs.declared.Kind.{Kind}
 use Rattle.layers.specs.declared.fill.LayerFill.{LayerFill}
 use Rattle.layers_run.specs.declared.offers.Offer.{Offer}
-use Rattle.layers_run.specs.declared.offers.Way.the-variants.{Skip, Turned, Best}
+use Rattle.layers_run.specs.declared.offers.Way.the-variants.{Turned, Best}
 use Rattle.boxes.specs.declared.Instance.{Instance}
 use Rattle.boxes.specs.Turns.{turnOf}
 use Rattle.layers_run.specs.Run.{noOffer, offerAt, offered, runFrom}

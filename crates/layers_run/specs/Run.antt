@@ -1,5 +1,5 @@
 -- A run: offers one after the other, each to the fill that the ones before it left.
-use mathlib.Core.Path.{_≡_, refl, sym}
+use mathlib.Core.Path.{_≡_, refl}
 use mathlib.Core.Bool.{Bool, true, false, cond}
 use mathlib.Core.List.{List}
 use Prim.Native.Nat.{ℕ, zero, suc, _+_, _<_, _≤_}
@@ -7,7 +7,7 @@ use native.Mathlib.Nat.{le-refl}
 use native.Mathlib.Omega.{arith}
 use lib.ListN.{getD, set}
 use lib.Seq.{set-getD}
-use Rattle.domain.specs.Bounds.{mostKinds, mostBoxes}
+use Rattle.domain.specs.Bounds.{mostKinds}
 use Rattle.measures.specs.declared.Container.{Container}
 use Rattle.measures.specs.declared.Kind.{Kind}
 use Rattle.sheet.specs.declared.Line.{Line}

@@ -1,9 +1,9 @@
 -- The orientation of each instance of a list in a sheet's lines (packing_utils.rs, `seed_orientations`).
-use mathlib.Core.Path.{_≡_, refl, sym, _∙_, ap}
-use mathlib.Core.Bool.{Bool, true, false, cond, _&&_}
+use mathlib.Core.Path.{_≡_, refl, _∙_, ap}
+use mathlib.Core.Bool.{Bool, cond, _&&_}
 use mathlib.Core.List.{List, [], _∷_, _++_}
 use mathlib.Core.Logic.{⊎-elim}
-use Prim.Native.Nat.{ℕ, zero, suc, _+_, _*_, _/_, _<_, _≤_}
+use Prim.Native.Nat.{ℕ, zero, suc, _+_, _*_, _<_, _≤_}
 use native.Mathlib.Nat.{eq-or-lt-of-le, le-of-suc-le-suc, not-suc-le-zero, mul-one}
 use native.Mathlib.Omega.{arith}
 use borrow.Author.Tests.{ltb-false}
@@ -17,7 +17,7 @@ use Rattle.measures.specs.declared.Kind.{Kind}
 use Rattle.sheet.specs.declared.Line.{Line}
 use Rattle.sheet.specs.declared.Sheet.{Sheet}
 use Rattle.sheet.specs.Sheets.{noKind, noLine, sheetRefusal}
-use Rattle.sheet.specs.Accepted.{Accepted, accepted}
+use Rattle.sheet.specs.Accepted.{accepted}
 use Rattle.unplaced.specs.Short.{namesOf, Named, named}
 use Rattle.plans.specs.Rows.{allBelow, wrote, wrote-more}
 use Rattle.layers_run.specs.declared.instances.Built.{Built}

@@ -44,21 +44,6 @@ shared (suc zero) (suc (suc i)) h = absurd (not-suc-le-zero (le-of-suc-le-suc (l
 shared (suc (suc r)) zero h = refl
 shared (suc (suc r)) (suc i) h = absurd (not-suc-le-zero (le-of-suc-le-suc h))
 
--- every entry is one of the six rows
-pub share-bound : (r i : ℕ) → getD (shareOf r) i 0 < 6
-share-bound zero zero = omega arith
-share-bound zero (suc zero) = omega arith
-share-bound zero (suc (suc zero)) = omega arith
-share-bound zero (suc (suc (suc zero))) = omega arith
-share-bound zero (suc (suc (suc (suc zero)))) = omega arith
-share-bound zero (suc (suc (suc (suc (suc zero))))) = omega arith
-share-bound zero (suc (suc (suc (suc (suc (suc i)))))) = omega arith
-share-bound (suc zero) zero = omega arith
-share-bound (suc zero) (suc zero) = omega arith
-share-bound (suc zero) (suc (suc i)) = omega arith
-share-bound (suc (suc r)) zero = omega arith
-share-bound (suc (suc r)) (suc i) = omega arith
-
 -- every axis is one of three
 pub axis-bound : (k j : ℕ) → getD (getD orders k []) j 0 < 3
 axis-bound k j = small k j

@@ -3,7 +3,8 @@ ghost use mathlib.Core.Path.{_≡_};
 ghost use Prim.Native.Nat.{_≤_, _<_};
 ghost use mathlib.Core.List.{[]};
 ghost use lib.ListN.{length, getD};
-ghost use Rattle.measures.specs.Orders.{orders, shareOf, rowOf, lengthsIn};
+ghost use Rattle.measures.specs.Orders.{orders, shareOf, rowOf, turned, lengthsIn};
+ghost use Rattle.measures.specs.Among.{allTurned, lengthsAmong};
 ghost use Rattle.measures.specs.Volume.{volume};
 ghost use Rattle.measures.specs.Faults.{recordFault, measureFault, kindFault, containerFault};
 
@@ -41,6 +42,9 @@ const SHARES: [[u8; 6]; 3] = [[0, 1, 2, 3, 4, 5], [0, 2, 0, 0, 0, 0], [0, 0, 0, 
 
 const COUNTS: [u8; 3] = [6, 2, 1];
 
+// Three lengths in each of the six orders.
+pub const SIX: usize = 18;
+
 // The rule's line in the tables. No accepted kind has a rule past 2; such a one counts as fixed.
 fn row(rule: u8) -> usize
     ensures { λ r. ⌜ r ≡ rowOf rule ⌝ }
@@ -74,6 +78,17 @@ fn axis(k: usize, j: usize) -> usize
     ORDERS[k][j] as usize
 }
 
+// The lengths with their axes in the order of row k.
+fn turned(size: [f64; 3], k: usize) -> [f64; 3]
+    requires { ⌜ k < 6 ⌝ }
+    ensures { λ r. ⌜ r ≡ turned size (getD orders k []) ⌝ }
+{
+    let w = axis(k, 0);
+    let d = axis(k, 1);
+    let h = axis(k, 2);
+    [size[w], size[d], size[h]]
+}
+
 // The lengths of a box in an orientation; unrotated where the index is past the rule's list.
 pub fn dimensions_for_orientation(kind: Kind, orientation: u32) -> [f64; 3]
     ensures { λ r. ⌜ r ≡ lengthsIn kind orientation ⌝ }
@@ -84,11 +99,51 @@ pub fn dimensions_for_orientation(kind: Kind, orientation: u32) -> [f64; 3]
     if allowed_orientations(rule) <= i {
         return size;
     }
-    let k = share(rule, i);
-    let w = axis(k, 0);
-    let d = axis(k, 1);
-    let h = axis(k, 2);
-    [size[w], size[d], size[h]]
+    turned(size, share(rule, i))
+}
+
+// The lengths in all six axis orders, row by row.
+pub fn all_turned(size: [f64; 3]) -> [f64; SIX]
+    ensures { λ r. ⌜ r ≡ allTurned size ⌝ }
+{
+    let a = turned(size, 0);
+    let b = turned(size, 1);
+    let c = turned(size, 2);
+    let d = turned(size, 3);
+    let e = turned(size, 4);
+    let f = turned(size, 5);
+    [
+        a[0],
+        a[1],
+        a[2],
+        b[0],
+        b[1],
+        b[2],
+        c[0],
+        c[1],
+        c[2],
+        d[0],
+        d[1],
+        d[2],
+        e[0],
+        e[1],
+        e[2],
+        f[0],
+        f[1],
+        f[2],
+    ]
+}
+
+// The lengths in an orientation by those in all six orders: quicker for one who asks for a kind's orientations in turn.
+pub fn dimensions_among(all: &[f64; SIX], size: [f64; 3], rule: u8, orientation: u32) -> [f64; 3]
+    ensures { λ r. ⌜ r ≡ lengthsAmong (now (all .entry)) size rule orientation ⌝ }
+{
+    let o = orientation as usize;
+    if allowed_orientations(rule) <= o {
+        return size;
+    }
+    let at = share(rule, o) * 3;
+    [all[at], all[at + 1], all[at + 2]]
 }
 
 // The volume of a box of these lengths: width by depth, then by height.

@@ -33,7 +33,10 @@ fn put_line(l: Line) {
 
 fn put_lines(lines: [Line; domain::MOST_LINES], n: usize) {
     let mut i = 0;
-    while (i < n) & (i < domain::MOST_LINES) {
+    while i < domain::MOST_LINES {
+        if n <= i {
+            return;
+        }
         let l = lines[i];
         put_line(l);
         i += 1;
@@ -42,7 +45,10 @@ fn put_lines(lines: [Line; domain::MOST_LINES], n: usize) {
 
 fn put_ids(ids: [u32; domain::MOST_KINDS], n: usize) {
     let mut i = 0;
-    while (i < n) & (i < domain::MOST_KINDS) {
+    while i < domain::MOST_KINDS {
+        if n <= i {
+            return;
+        }
         put(b" ");
         put_number(ids[i] as u64);
         i += 1;

@@ -21,6 +21,13 @@ fn refuse(refused: u32) {
     io::write_all(STDERR_FILENO, b"\n");
 }
 
+// The first n bytes.
+fn put_first(bytes: &[u8; BYTES], n: usize) {
+    if n <= BYTES {
+        io::write_all(STDOUT_FILENO, &bytes[..n]);
+    }
+}
+
 fn write(order: Sheet, p: Plan) {
     let mut bytes = [0u8; BYTES];
     let w = load_file::write_sheet(plans::planned_sheet(order, p), &mut bytes);
@@ -28,9 +35,7 @@ fn write(order: Sheet, p: Plan) {
         refuse(w.refused);
         return;
     }
-    if w.length <= BYTES {
-        io::write_all(STDOUT_FILENO, &bytes[..w.length]);
-    }
+    put_first(&bytes, w.length);
 }
 
 fn planned(order: Sheet, layers: bool, consider: u64) -> Plan {
@@ -70,7 +75,10 @@ fn main() {
     let k = os::arg(3, &mut third);
     let asked = words::asked_by(&first[..i], &second[..j], &third[..k], os::arg_count());
     if !asked.right {
-        io::write_all(STDERR_FILENO, b"usage: plan points|layers [NUMBER] [list]\n");
+        io::write_all(
+            STDERR_FILENO,
+            b"usage: plan points|layers [NUMBER] [list]\n",
+        );
         return;
     }
     run(asked.layers, asked.consider, asked.list);

@@ -39,7 +39,13 @@ fn is_number(w: &[u8]) -> bool {
 
 // One digit more. Past a million a number only has to stay past the boxes that there can be.
 fn longer(n: u64, c: u8) -> u64 {
-    if (n > 1000000) | !is_digit(c) {
+    if n > 1000000 {
+        return n;
+    }
+    if c < b'0' {
+        return n;
+    }
+    if b'9' < c {
         return n;
     }
     n * 10 + ((c - b'0') as u64)

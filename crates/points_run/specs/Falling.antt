@@ -2,20 +2,24 @@
 -- that are later in the listing; and there is no other such list.
 use mathlib.Core.Path.{_≡_, refl, sym, _∙_, ap}
 use mathlib.Core.Bool.{Bool, true, false, not, cond, _&&_, _||_}
+use mathlib.Core.Logic.{⊎-elim}
 use mathlib.Core.List.{List, [], _∷_, _++_, map, List·Permᴰ, List·Permᴰ·nil, List·Permᴰ·cons, List·Permᴰ·swap, List·Permᴰ·trans, Permᴰ·refl, Permᴰ·symm, Permᴰ·middle, Permᴰ·append-nil}
 use Prim.Native.Nat.{ℕ, zero, suc, _<_, _≤_, suc-le-suc}
-use native.Mathlib.Nat.{not-suc-le-zero, le-of-suc-le-suc}
+use native.Mathlib.Nat.{not-suc-le-zero, le-of-suc-le-suc, eq-or-lt-of-le}
 use native.Mathlib.Omega.{arith}
 use borrow.Author.Tests.{ltb-true, ltb-false, lt-ltb, le-ltb}
 use lib.Dec.{ltb}
-use lib.ListN.{length, getD}
+use lib.ListN.{length, getD, take, length-append, List·getD-append, List·getD-map}
+use lib.Seq.{getD-at, getD-take, length-take-le, ext-getD}
 use lib.Ieee.{Float, lt}
 use Rattle.floats.specs.Weak.{Weak, Number, true-false, on-weak, lex, lex-weak}
+use Rattle.domain.specs.Bounds.{mostBoxes}
 use Rattle.measures.specs.declared.Kind.{Kind}
 use Rattle.boxes.specs.declared.Instance.{Instance}
 use Rattle.boxes.specs.Turns.{turnOf}
-use Rattle.points_run.specs.Order.{insert, fallingOf, fallingBoxes}
-use Rattle.points_run.specs.Insert.{insert-length, insert-all, falling-length, falling-below}
+use Rattle.boxes.specs.Listing.{noInstance, atMostAll, listingOf, listed-length, listing-at}
+use Rattle.points_run.specs.Order.{volumeOf, insert, fallingOf, fallingBoxes}
+use Rattle.points_run.specs.Insert.{insert-length, insert-all, falling-length, falling-below, map-length}
 
 -- the places of the listing, in its order
 unfoldable pub upTo : ℕ → List ℕ
@@ -55,10 +59,34 @@ map-perm f (List·Permᴰ·cons e p) = List·Permᴰ·cons (ap f e) (map-perm f 
 map-perm f (List·Permᴰ·swap e h) = List·Permᴰ·swap (ap f e) (ap f h)
 map-perm f (List·Permᴰ·trans p q) = List·Permᴰ·trans (map-perm f p) (map-perm f q)
 
+up-length : (n : ℕ) → length (upTo n) ≡ n
+unfolding upTo
+up-length zero = refl
+up-length (suc n) = let h = up-length n in let a = length-append (upTo n) (n ∷ []) in omega arith
+
+up-at : (n i : ℕ) → i < n → getD (upTo n) i 0 ≡ i
+unfolding upTo
+up-at zero i l = absurd (not-suc-le-zero l)
+up-at (suc n) i l =
+    ⊎-elim (λ e. rw e (getD-at (upTo n) n [] 0 n (up-length n)))
+    (λ m. List·getD-append (upTo n) (n ∷ []) 0 i (rw (up-length n) m) ∙ up-at n i m)
+    (eq-or-lt-of-le (le-of-suc-le-suc l))
+
+-- the boxes at these places are the listing
+pub listing-is : (kinds : List Kind) (n : ℕ) → n ≤ mostBoxes → take n (listingOf kinds n) ≡ map (turnOf kinds) (upTo n)
+unfolding turnOf listingOf
+listing-is kinds n few =
+    let long : length (take n (listingOf kinds n)) ≡ n = length-take-le n (listingOf kinds n) (rw (listed-length (turnOf kinds) (atMostAll n)) few) in
+    ext-getD noInstance (take n (listingOf kinds n)) (map (turnOf kinds) (upTo n)) (long ∙ sym (map-length (turnOf kinds) (upTo n) ∙ up-length n))
+    (λ i l.
+    let h : i < n = rw long at l in
+    getD-take n (listingOf kinds n) i noInstance h
+    ∙ (listing-at kinds n i few h ∙ sym (List·getD-map (turnOf kinds) (upTo n) i 0 ∙ ap (turnOf kinds) (up-at n i h))))
+
 -- the boxes that a run takes are those of the listing
-pub falling-boxes-perm : (kinds : List Kind) (n : ℕ) → List·Permᴰ (fallingBoxes kinds n) (map (turnOf kinds) (upTo n))
+pub falling-boxes-perm : (kinds : List Kind) (n : ℕ) → n ≤ mostBoxes → List·Permᴰ (fallingBoxes kinds n) (take n (listingOf kinds n))
 unfolding fallingBoxes
-falling-boxes-perm kinds n = map-perm (turnOf kinds) (falling-perm _ n)
+falling-boxes-perm kinds n few = rw (listing-is kinds n few) (map-perm (turnOf kinds) (falling-perm (volumeOf kinds) n))
 
 -- ---- in order
 

@@ -16,7 +16,7 @@ use Rattle.measures.specs.Volume.{volume}
 use Rattle.sheet.specs.Sheets.{noKind}
 use Rattle.boxes.specs.declared.Instance.{Instance}
 use Rattle.boxes.specs.Turns.{turnOf}
-use Rattle.boxes.specs.Listing.{noInstance, listingOf, all-of-few, listed-at}
+use Rattle.boxes.specs.Listing.{noInstance, listingOf}
 use Rattle.points_run.specs.Stored.{stored, stored-length, stored-at}
 use Rattle.points_run.specs.Order.{volumeOf, insert, fallingOf, fallingBoxes}
 
@@ -239,14 +239,9 @@ module _ (vol : ℕ → Float) (p : List ℕ) (n : ℕ) (long : length p ≡ mos
       opened-first p (spotOf vol (vol n) (take n p)) n (spot-few (omega arith)) (omega arith)
       ∙ (sym (insert-at vol n (take n p)) ∙ ap (insert vol n) e)
 
-map-length : {A B : Type 0} (f : A → B) (l : List A) → length (map f l) ≡ length l
+pub map-length : {A B : Type 0} (f : A → B) (l : List A) → length (map f l) ≡ length l
 map-length f [] = refl
 map-length f (x ∷ l) = ap suc (map-length f l)
-
--- the listing's store has each box at its place
-pub listing-at : (kinds : List Kind) (n t : ℕ) → n ≤ mostBoxes → t < n → getD (listingOf kinds n) t noInstance ≡ turnOf kinds t
-unfolding listingOf
-listing-at kinds n t few l = rw (all-of-few n few) (listed-at (turnOf kinds) n t few l)
 
 -- the boxes at the places
 pub boxes-fall : (kinds : List Kind) (n : ℕ) (boxes : List Instance) (p : List ℕ) → n ≤ mostBoxes → length p ≡ mostBoxes

@@ -1,4 +1,4 @@
--- The extreme-point placer's run: the order of the boxes, and the plan.
+-- The extreme-point placer's run: the order of the boxes, the plan, and theorems on both.
 pub mod Stored
 pub mod Order
 pub mod Insert
@@ -6,3 +6,4 @@ pub mod Falling
 pub mod Volumes
 pub mod Runs
 pub mod Reached
+pub mod Told

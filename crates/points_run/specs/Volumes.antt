@@ -1,7 +1,7 @@
 -- The volumes of an accepted order's boxes are numbers, so that the order of its boxes is the one that Falling.antt says.
 use mathlib.Core.Path.{_≡_, refl, sym, _∙_}
 use mathlib.Core.Bool.{Bool, true, false, not, _&&_, _||_}
-use mathlib.Core.List.{List}
+use mathlib.Core.List.{List, List·Permᴰ}
 use Prim.Native.Nat.{ℕ, _*_, _<_, _≤_}
 use native.Mathlib.Omega.{arith}
 use borrow.Author.Tests.{eqb-false, le-ltb, ne-eqb}
@@ -27,7 +27,7 @@ use Rattle.sheet.specs.Accepted.{Accepted}
 use Rattle.boxes.specs.Turns.{turnOf, Right, turn-right}
 use Rattle.points_run.specs.Order.{volumeOf, fallingOf}
 use Rattle.points_run.specs.Insert.{Turned}
-use Rattle.points_run.specs.Falling.{Ordered, falling-ordered}
+use Rattle.points_run.specs.Falling.{upTo, Ordered, falling-ordered, only-falling}
 
 -- ---- the kinds of an accepted order's boxes
 
@@ -119,3 +119,8 @@ volumes-numbers order a t l = volume-number (kindAt order (turnOf (order .kinds)
 pub order-falls : (order : Sheet) → Accepted order
     → Ordered (volumeOf (order .kinds)) (fallingOf (volumeOf (order .kinds)) (boxesIn (order .kinds) (order .many .kinds)))
 order-falls order a = falling-ordered (volumeOf (order .kinds)) (boxesIn (order .kinds) (order .many .kinds)) (volumes-numbers order a)
+
+-- and no other list of these places is so ordered
+pub order-only : (order : Sheet) → Accepted order → (l : List ℕ) → List·Permᴰ l (upTo (boxesIn (order .kinds) (order .many .kinds)))
+    → Ordered (volumeOf (order .kinds)) l → l ≡ fallingOf (volumeOf (order .kinds)) (boxesIn (order .kinds) (order .many .kinds))
+order-only order a l p o = only-falling (volumeOf (order .kinds)) (boxesIn (order .kinds) (order .many .kinds)) l (volumes-numbers order a) p o

@@ -39,10 +39,11 @@ fn lines_of(filled: Filled) -> [Line; domain::MOST_LINES]
     while i < n {
         let label = labels[i];
         let at = [boxes[6 * i], boxes[6 * i + 1], boxes[6 * i + 2]];
+        let orientation = orientations[i];
         lines[i] = Line {
             id: label.id,
             instance: label.instance,
-            orientation: orientations[i],
+            orientation,
             bin: 0,
             at,
         };

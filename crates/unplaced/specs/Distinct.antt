@@ -2,8 +2,9 @@
 use mathlib.Core.Path.{_≡_, refl, sym, _∙_}
 use mathlib.Core.Bool.{Bool, true, false, not, _&&_, _||_}
 use mathlib.Core.List.{List}
+use mathlib.Core.Logic.{⊎-elim}
 use Prim.Native.Nat.{ℕ, zero, suc, _+_, _<_, _≤_}
-use native.Mathlib.Nat.{le-refl}
+use native.Mathlib.Nat.{le-refl, eq-or-lt-of-le, le-of-suc-le-suc}
 use native.Mathlib.Omega.{arith}
 use borrow.Author.Tests.{ltb-true, ltb-false, lt-ltb, eqb-true, ne-eqb, eq-eqb}
 use lib.Dec.{eqb, ltb}
@@ -79,3 +80,53 @@ distinct-most ids instances (suc n) id q = go (distinct-most ids instances n id 
         distinct-hit ids instances n id q (and-left (eqb (getD ids n 0) id) _ h)
         (ltb-true (getD instances n 0) q (and-right (eqb (getD ids n 0) id) _ h)) in
         omega arith
+
+-- one line more places no fewer
+distinct-more : (ids instances : List ℕ) (n id q : ℕ) → distinctPlaced ids instances n id q ≤ distinctPlaced ids instances (suc n) id q
+distinct-more ids instances n id q = go (eqb (getD ids n 0) id && ltb (getD instances n 0) q) refl
+  where
+    ones : (b : Bool) → when b 1 ≤ 1
+    ones true = le-refl 1
+    ones false = omega arith
+
+    go : (b : Bool) → (eqb (getD ids n 0) id && ltb (getD instances n 0) q) ≡ b → distinctPlaced ids instances n id q ≤ distinctPlaced ids instances (suc n) id q
+    go false h = let e = distinct-miss ids instances n id q h in omega arith
+    go true h =
+        let e =
+        distinct-hit ids instances n id q (and-left (eqb (getD ids n 0) id) _ h)
+        (ltb-true (getD instances n 0) q (and-right (eqb (getD ids n 0) id) _ h)) in
+        let o = ones (isPlaced ids instances n id (getD instances n 0)) in
+        omega arith
+
+distinct-grows : (ids instances : List ℕ) (j n id q : ℕ) → j ≤ n → distinctPlaced ids instances j id q ≤ distinctPlaced ids instances n id q
+distinct-grows ids instances j zero id q h = let e : j ≡ 0 = omega arith in rw e (le-refl _)
+distinct-grows ids instances j (suc n) id q h =
+    ⊎-elim (λ e. rw e (le-refl _))
+    (λ l. let a = distinct-grows ids instances j n id q (le-of-suc-le-suc l) in let b = distinct-more ids instances n id q in omega arith)
+    (eq-or-lt-of-le h)
+
+-- there are no more in range than the quantity
+distinct-range : (ids instances : List ℕ) (n id q : ℕ) → distinctPlaced ids instances n id q ≤ q
+unfolding distinctPlaced onePlaced sumBelow
+distinct-range ids instances n id zero = le-refl 0
+distinct-range ids instances n id (suc q) = let h = distinct-range ids instances n id q in go (isPlaced ids instances n id q) h
+  where
+    go : (b : Bool) → sumBelow (onePlaced ids instances n id) q ≤ q → sumBelow (onePlaced ids instances n id) q + when b 1 ≤ suc q
+    go true h = omega arith
+    go false h = omega arith
+
+-- once all are placed, further lines change nothing
+pub distinct-full : (ids instances : List ℕ) (j n id q : ℕ) → j ≤ n → q ≤ distinctPlaced ids instances j id q → distinctPlaced ids instances j id q ≡ distinctPlaced ids instances n id q
+distinct-full ids instances j n id q h f =
+    let g = distinct-grows ids instances j n id q h in
+    let r = distinct-range ids instances n id q in
+    omega arith
+
+-- a count that stopped at the last line, or at the quantity, is the whole count
+pub distinct-done : (ids instances : List ℕ) (j n id q count : ℕ) → j ≤ n → count ≡ distinctPlaced ids instances j id q → (ltb j n && ltb count q) ≡ false
+    → count ≡ distinctPlaced ids instances n id q
+distinct-done ids instances j n id q count h e t = go (ltb j n) refl t
+  where
+    go : (b : Bool) → ltb j n ≡ b → (b && ltb count q) ≡ false → count ≡ distinctPlaced ids instances n id q
+    go true l f = let r = ltb-false count q f in e ∙ distinct-full ids instances j n id q h (omega arith)
+    go false l f = let r = ltb-false j n l in let i : j ≡ n = omega arith in rw i at e

@@ -1,7 +1,9 @@
 // The unplaced list: the kinds of which fewer distinct instances are placed than they have, each once, in kind order.
 // Both placers and the checker go by the same count.
 ghost use mathlib.Core.Path.{_≡_};
+ghost use mathlib.Core.Bool.{true, false};
 ghost use Prim.Native.Nat.{_≤_, _<_};
+ghost use lib.ListN.{getD, set};
 ghost use Rattle.domain.specs.Bounds.{mostKinds, mostLines};
 ghost use Rattle.unplaced.specs.Short.{distinctPlaced, isShort, namesOf};
 ghost use Rattle.unplaced.specs.Left.{flagsOf, pushIf, leftAfter, noLeft, overBound, shortsOf, leftOf, unplacedRefusal, unplacedOf};
@@ -34,17 +36,6 @@ const MARKS: usize = 257;
 
 const SPARE: usize = 256;
 
-// The mark of a line: its instance's where it places this kind in range, else the spare one.
-fn mark_of(same: bool, instance: u32, quantity: u32) -> usize
-    requires { ⌜ quantity ≤ mostLines ⌝ }
-    ensures { λ r. ⌜ (r ≡ markOf same instance quantity) × (r ≤ mostLines) ⌝ }
-{
-    if same & (instance < quantity) {
-        return instance as usize;
-    }
-    SPARE
-}
-
 // 1 for an instance that was not seen before.
 fn fresh(seen: bool) -> usize
     ensures { λ r. ⌜ (r ≡ freshOf seen) × (r ≤ 1) ⌝ }
@@ -53,6 +44,21 @@ fn fresh(seen: bool) -> usize
         return 0;
     }
     1
+}
+
+// Sets the mark of a line, its instance's where it places this kind in range: 1 where it was not set before. Any other
+// line's is the spare one, which is set and stays so.
+fn mark(seen: &mut [bool; MARKS], same: bool, instance: u32, quantity: u32) -> usize
+    requires { ⌜ (quantity ≤ mostLines) × (getD (now seen) mostLines false ≡ true) ⌝ }
+    ensures { λ r. ⌜ (r ≡ freshOf (getD (now (seen .entry)) (markOf same instance quantity) false)) × (r ≤ 1) × (now (seen .exit) ≡ set (now (seen .entry)) (markOf same instance quantity) true) ⌝ }
+{
+    if same & (instance < quantity) {
+        let at = instance as usize;
+        let r = fresh(seen[at]);
+        seen[at] = true;
+        return r;
+    }
+    0
 }
 
 // No mark but the spare one.
@@ -64,7 +70,7 @@ fn no_marks() -> [bool; MARKS]
     seen
 }
 
-// How many distinct instances of a kind, in range, the first n lines place.
+// How many distinct instances of a kind, in range, the first n lines place. Once all are placed, no line adds one.
 fn distinct_placed(
     ids: &[u32; domain::MOST_LINES],
     instances: &[u32; domain::MOST_LINES],
@@ -75,13 +81,12 @@ fn distinct_placed(
     requires { ⌜ (n ≤ mostLines) × (quantity ≤ mostLines) ⌝ }
     ensures { λ r. ⌜ r ≡ distinctPlaced (now (ids .entry)) (now (instances .entry)) n id quantity ⌝ }
 {
+    let most = quantity as usize;
     let mut seen = no_marks();
     let mut count = 0;
     let mut j = 0;
-    while j < n {
-        let at = mark_of(ids[j] == id, instances[j], quantity);
-        count += fresh(seen[at]);
-        seen[at] = true;
+    while (j < n) & (count < most) {
+        count += mark(&mut seen, ids[j] == id, instances[j], quantity);
         j += 1;
     }
     count

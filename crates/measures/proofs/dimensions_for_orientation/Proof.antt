@@ -15,23 +15,8 @@ returns c = rw (le-ltb _ _ (rw (c .before .allowed-orientations .ensures) at (c 
 returns-2 : tie.Need-returns-2
 unfolding lengthsIn
 returns-2 c =
-    rw (lt-ltb _ _ (rw (c .before .before .before .before .before .allowed-orientations .ensures) at (c .before .before .before .before .if1 .left)))
-    (rw (c .axis3 .ensures .0, c .before .axis2 .ensures .0, c .before .before .axis .ensures .0) (rw (c .before .before .before .share .ensures .0)))
+    rw (lt-ltb _ _ (rw (c .before .before .before .allowed-orientations .ensures) at (c .before .before .if1 .left)))
+    (rw (c .turned .ensures, c .before .share .ensures .0))
 
 pub dimensions-for-orientation-spec : {M : Type 1} → statement M
-dimensions-for-orientation-spec =
-    tie.close
-    (tie.spec
-    (λ c κs. search needs)
-    returns
-    (λ c κs. search needs)
-    (λ c κs. search needs)
-    (λ c κs. search needs)
-    (λ c κs. search needs)
-    (λ c. search needs)
-    (λ c. search needs)
-    (λ c. search needs)
-    (λ c. search needs)
-    (λ c. search needs)
-    (λ c. search needs)
-    returns-2)
+dimensions-for-orientation-spec = tie.close (tie.spec (λ c κs. search needs) returns (λ c κs. search needs) (λ c κs. search needs) returns-2)

@@ -3,7 +3,8 @@ use Prim.Native.Nat.{_<_, _≤_}
 use lib.ListN.{length}
 use native.Mathlib.Omega.{arith}
 use Rattle.measures.specs.Orders.{shareOf}
-use Rattle.measures.proofs.Tables.{row-bound, share-few, shared, share-bound}
+use Rattle.measures.proofs.Tables.{row-bound, share-few, shared}
+use Rattle.measures.specs.Among.{share-bound}
 use mathlib.Core.Path.{refl}
 use borrow.Author.Needs.{needs}
 use Rattle.measures.proofs.share.Statement.{statement}

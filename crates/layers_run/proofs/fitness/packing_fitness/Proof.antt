@@ -1,5 +1,5 @@
 -- `fitness::packing_fitness` meets its contract, by the refusal and what its callees ensure.
-use mathlib.Core.Path.{_≡_, sym, _∙_}
+use mathlib.Core.Path.{sym, _∙_}
 use native.Mathlib.Omega.{arith}
 use borrow.Author.Needs.{needs}
 use borrow.Author.Tests.{eq-eqb, ne-eqb}

@@ -1,6 +1,6 @@
 -- `instances::orientations_of` meets its contract: each turn stores one line's orientation.
 use Prim.Native.Nat.{_≤_, _-_}
-use mathlib.Core.Path.{_≡_, refl, _∙_}
+use mathlib.Core.Path.{_≡_, refl}
 use native.Mathlib.Omega.{arith}
 use native.Mathlib.Numerals.{add-one}
 use Rattle.domain.specs.Bounds.{mostLines}

@@ -1,5 +1,5 @@
 -- `instances::put_records` meets its contract: each turn stores one record behind the others.
-use Prim.Native.Nat.{_≤_, _<_, _-_, _*_, suc}
+use Prim.Native.Nat.{_≤_, _<_, _-_, suc}
 use mathlib.Core.Path.{_≡_, refl, sym, _∙_, ap}
 use native.Mathlib.Omega.{arith}
 use native.Mathlib.Numerals.{add-one}

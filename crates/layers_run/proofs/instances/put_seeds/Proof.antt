@@ -1,6 +1,6 @@
 -- `instances::put_seeds` meets its contract: each turn stores one orientation behind the others.
-use Prim.Native.Nat.{_≤_, _<_, _-_, _*_, _+_, suc}
-use mathlib.Core.Path.{_≡_, refl, sym, _∙_, ap}
+use Prim.Native.Nat.{_≤_, _<_, _-_, _*_, suc}
+use mathlib.Core.Path.{_≡_, refl, sym, _∙_}
 use native.Mathlib.Omega.{arith}
 use native.Mathlib.Numerals.{add-one}
 use lib.ListN.{length, getD}

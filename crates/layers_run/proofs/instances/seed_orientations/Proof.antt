@@ -1,5 +1,5 @@
 -- `instances::seed_orientations` meets its contract, by the refusal and what its callees ensure.
-use mathlib.Core.Path.{_≡_, sym, _∙_}
+use mathlib.Core.Path.{sym, _∙_}
 use native.Mathlib.Omega.{arith}
 use lib.ListN.{length}
 use borrow.Author.Needs.{needs}

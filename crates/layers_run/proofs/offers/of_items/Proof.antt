@@ -1,6 +1,6 @@
 -- `offers::of_items` meets its contract: each turn stores the offer of its item.
-use Prim.Native.Nat.{_≤_, _-_, suc}
-use mathlib.Core.Path.{_≡_, refl, sym, _∙_}
+use Prim.Native.Nat.{_≤_, _-_}
+use mathlib.Core.Path.{_≡_}
 use native.Mathlib.Omega.{arith}
 use native.Mathlib.Numerals.{add-one}
 use Rattle.layers_run.specs.Offers.{itemOffer, Listed, listed-none, listed-more}

@@ -1,6 +1,6 @@
 -- `run::run` meets its contract: a turn of the loop is a turn of the definition.
-use Prim.Native.Nat.{_≤_, _<_, _-_, _+_, suc}
-use mathlib.Core.Path.{_≡_, refl, sym, _∙_, ap}
+use Prim.Native.Nat.{_≤_, _-_, _+_}
+use mathlib.Core.Path.{_≡_, refl, _∙_}
 use mathlib.Core.Bool.{false}
 use native.Mathlib.Nat.{le-refl}
 use native.Mathlib.Omega.{arith}
@@ -9,7 +9,7 @@ use lib.ListN.{getD}
 use Rattle.sheet.specs.Sheets.{noKind}
 use Rattle.layers.specs.Stand.{noStep}
 use Rattle.layers.specs.Fill.{took}
-use Rattle.layers_run.specs.Run.{Known, stepBy, offerAt, offered, runFrom, took-is, step-stays}
+use Rattle.layers_run.specs.Run.{stepBy, offerAt, offered, runFrom, took-is, step-stays}
 use Rattle.layers_run.proofs.run.run.Statement.{statement}
 use Rattle.layers_run.proofs.run.run.Tie as tie
 

@@ -4,7 +4,8 @@ use mathlib.Core.Path.{_≡_}
 use lib.ListN.{getD}
 use Rattle.boxes.specs.Turns.{turnOf}
 use Rattle.boxes.specs.Listing.{noInstance}
-use Rattle.points_run.specs.Insert.{listing-at, places-of, boxes-fall}
+use Rattle.boxes.specs.Listing.{listing-at}
+use Rattle.points_run.specs.Insert.{places-of, boxes-fall}
 use borrow.Author.Needs.{needs}
 use Rattle.points_run.proofs.order.falling_boxes.Statement.{statement}
 use Rattle.points_run.proofs.order.falling_boxes.Tie as tie

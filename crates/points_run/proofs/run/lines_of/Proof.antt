@@ -20,63 +20,6 @@ loop-holds : tie.Need-loop-holds Inv-loop μ-loop
 unfolding stored
 loop-holds c = (omega arith, refl)
 
-mul-label : tie.Need-mul-label Inv-loop μ-loop
-mul-label c = omega arith
-
-array-copy-out-label : tie.Need-array-copy-out-label Inv-loop μ-loop
-array-copy-out-label c = omega arith
-
-mul-t14 : tie.Need-mul-t14 Inv-loop μ-loop
-mul-t14 c = omega arith
-
-mul-t18 : tie.Need-mul-t18 Inv-loop μ-loop
-mul-t18 c = omega arith
-
-array-read-t21 : tie.Need-array-read-t21 Inv-loop μ-loop
-array-read-t21 c = omega arith
-
-mul-t22 : tie.Need-mul-t22 Inv-loop μ-loop
-mul-t22 c = omega arith
-
-add-t23 : tie.Need-add-t23 Inv-loop μ-loop
-add-t23 c = omega arith
-
-mul-t24 : tie.Need-mul-t24 Inv-loop μ-loop
-mul-t24 c = omega arith
-
-array-read-t27 : tie.Need-array-read-t27 Inv-loop μ-loop
-array-read-t27 c = omega arith
-
-mul-t28 : tie.Need-mul-t28 Inv-loop μ-loop
-mul-t28 c = omega arith
-
-add-t29 : tie.Need-add-t29 Inv-loop μ-loop
-add-t29 c = omega arith
-
-mul-t30 : tie.Need-mul-t30 Inv-loop μ-loop
-mul-t30 c = omega arith
-
-array-read-t33 : tie.Need-array-read-t33 Inv-loop μ-loop
-array-read-t33 c = omega arith
-
-mul-t14-2 : tie.Need-mul-t14-2 Inv-loop μ-loop
-mul-t14-2 c = omega arith
-
-array-read-t36 : tie.Need-array-read-t36 Inv-loop μ-loop
-array-read-t36 c = omega arith
-
-mul-lines : tie.Need-mul-lines Inv-loop μ-loop
-mul-lines c = omega arith
-
-array-set-from-lines : tie.Need-array-set-from-lines Inv-loop μ-loop
-array-set-from-lines c = omega arith
-
-add-i : tie.Need-add-i Inv-loop μ-loop
-add-i c = omega arith
-
-loop-less : tie.Need-loop-less Inv-loop μ-loop
-loop-less c = omega arith
-
 loop-again : tie.Need-loop-again Inv-loop μ-loop
 unfolding stored lineBy three
 loop-again c =
@@ -96,24 +39,24 @@ lines-of-spec =
     Inv-loop
     μ-loop
     loop-holds
-    mul-label
-    array-copy-out-label
-    mul-t14
-    mul-t18
-    array-read-t21
-    mul-t22
-    add-t23
-    mul-t24
-    array-read-t27
-    mul-t28
-    add-t29
-    mul-t30
-    array-read-t33
-    mul-t14-2
-    array-read-t36
-    mul-lines
-    array-set-from-lines
-    add-i
-    loop-less
+    (λ c. omega arith)
+    (λ c. omega arith)
+    (λ c. omega arith)
+    (λ c. omega arith)
+    (λ c. omega arith)
+    (λ c. omega arith)
+    (λ c. omega arith)
+    (λ c. omega arith)
+    (λ c. omega arith)
+    (λ c. omega arith)
+    (λ c. omega arith)
+    (λ c. omega arith)
+    (λ c. omega arith)
+    (λ c. omega arith)
+    (λ c. omega arith)
+    (λ c. omega arith)
+    (λ c. omega arith)
+    (λ c. omega arith)
+    (λ c. omega arith)
     loop-again
     returns)

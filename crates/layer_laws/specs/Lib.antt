@@ -1,0 +1,5 @@
+-- What holds of a fill by layers beyond its contract.
+pub mod Begin
+pub mod Made
+pub mod Reproduce
+pub mod Seeded

@@ -1,0 +1,104 @@
+// A fresh state of an order's container, the boxes tried in it one by one, and what is stored at the end.
+use crate::stored;
+use measures::Kind;
+use point_set::ExtremePointSet;
+use points::Answer;
+use points::Tried;
+use sheet::Sheet;
+
+// Whether all was as expected so far, the state, and the place of what comes next.
+struct Progress {
+    same: bool,
+    set: ExtremePointSet,
+    at: usize,
+}
+
+// Whether the box placed last is this one.
+fn same_last(b: &[u8], at: usize, set: ExtremePointSet, id: u32, instance: u32) -> bool {
+    let n = point_set::placed_count(set);
+    if n == 0 {
+        return false;
+    }
+    let last = point_set::placed_box(set, n - 1);
+    let position = last.position;
+    let who = (last.id == id) & (last.instance == instance);
+    who & vectors::same_three(b, at, position)
+}
+
+// Whether the answer is what is expected at `at`.
+fn same_answer(b: &[u8], at: usize, tried: Tried, id: u32, instance: u32) -> bool {
+    let next = tried.next;
+    let v = tried.at;
+    let took = vectors::u32_at(b, at);
+    let place = vectors::past(at, 4);
+    let count = vectors::size(vectors::u32_at(b, vectors::past(at, 28))) == point_set::len(next);
+    let there = vectors::same_three(b, place, v);
+    let answer = tried.answer;
+    match answer {
+        Answer::Stands => {
+            (took == 1) & (count & (there & same_last(b, place, next, id, instance)))
+        }
+        Answer::NoRoom => (took == 0) & (count & there),
+        Answer::Refused(_) => false,
+    }
+}
+
+// One call: a kind's place, an instance and an orientation, then what is expected.
+fn call(b: &[u8], s: Sheet, r: Progress) -> Progress {
+    let at = r.at;
+    let set = r.set;
+    let kind = vectors::kind_of(s, vectors::size(vectors::u32_at(b, at)));
+    let instance = vectors::u32_at(b, vectors::past(at, 4));
+    let orientation = vectors::u32_at(b, vectors::past(at, 8));
+    let tried = points::try_place(set, kind, instance, orientation);
+    let next = tried.next;
+    let same = same_answer(b, vectors::past(at, 12), tried, kind.id, instance);
+    Progress {
+        same: r.same & same,
+        set: next,
+        at: vectors::past(at, 44),
+    }
+}
+
+// All the calls, from a fresh state on.
+fn run(b: &[u8], s: Sheet, at: usize) -> Progress {
+    let n = vectors::u32_at(b, at);
+    let container = s.container;
+    let fresh = point_set::new(container);
+    let set = fresh.set;
+    let mut r = Progress {
+        same: fresh.refused == 0,
+        set,
+        at: vectors::past(at, 4),
+    };
+    let mut i = 0;
+    while i < n {
+        r = call(b, s, r);
+        i += 1;
+    }
+    r
+}
+
+// What is expected after all calls, from `at` on.
+fn same_end(b: &[u8], at: usize, set: ExtremePointSet) -> bool {
+    let placed = vectors::size(vectors::u32_at(b, at)) == point_set::placed_count(set);
+    let volume = vectors::same_float(b, vectors::past(at, 4), point_set::total_volume(set));
+    let mass = vectors::same_float(b, vectors::past(at, 12), point_set::total_mass(set));
+    let n = vectors::size(vectors::u32_at(b, vectors::past(at, 20)));
+    let live = point_set::len(set);
+    let list = vectors::past(at, 24);
+    let held = stored::same_points(b, list, n, &set.points, live);
+    let empty = point_set::is_empty(set) == (n == 0);
+    placed & (volume & (mass & (held & empty)))
+}
+
+pub(crate) fn same_calls(b: &[u8]) -> bool {
+    let reading = vectors::sheet_at(b, 0);
+    let s = reading.sheet;
+    let r = run(b, s, vectors::after_bytes(b, 0));
+    let at = r.at;
+    let set = r.set;
+    let n = vectors::size(vectors::u32_at(b, vectors::past(at, 20)));
+    let ends = stored::past_points(vectors::past(at, 24), n) == b.len();
+    (reading.refused == 0) & (r.same & (same_end(b, at, set) & ends))
+}

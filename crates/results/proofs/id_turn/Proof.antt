@@ -1,0 +1,12 @@
+-- `results::id_turn` meets its contract: what its calls ensure, put together.
+use borrow.Author.Needs.{needs}
+use Rattle.results.specs.Results.{idTurn}
+use Rattle.results.proofs.id_turn.Statement.{statement}
+use Rattle.results.proofs.id_turn.Tie as tie
+
+returns : tie.Need-returns
+unfolding idTurn
+returns c = cc
+
+pub id-turn-spec : {M : Type 1} → statement M
+id-turn-spec = tie.close (tie.spec (λ c κs. search needs) (λ c κs. search needs) (λ c κs. search needs) (λ c κs. search needs) returns)

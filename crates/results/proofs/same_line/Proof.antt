@@ -1,0 +1,12 @@
+-- `results::same_line` meets its contract: what its calls ensure, put together.
+use borrow.Author.Needs.{needs}
+use Rattle.results.specs.Results.{sameLine}
+use Rattle.results.proofs.same_line.Statement.{statement}
+use Rattle.results.proofs.same_line.Tie as tie
+
+returns : tie.Need-returns
+unfolding sameLine
+returns c = cc
+
+pub same-line-spec : {M : Type 1} → statement M
+same-line-spec = tie.close (tie.spec (λ c κs. search needs) (λ c κs. search needs) (λ c κs. search needs) (λ c κs. search needs) returns)

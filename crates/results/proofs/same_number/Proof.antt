@@ -1,0 +1,12 @@
+-- `results::same_number` meets its contract: what its calls ensure, put together.
+use borrow.Author.Needs.{needs}
+use Rattle.results.specs.Results.{sameNumber}
+use Rattle.results.proofs.same_number.Statement.{statement}
+use Rattle.results.proofs.same_number.Tie as tie
+
+returns : tie.Need-returns
+unfolding sameNumber
+returns c = cc
+
+pub same-number-spec : {M : Type 1} → statement M
+same-number-spec = tie.close (tie.spec (λ c κs. search needs) (λ c. search needs) (λ c κs. search needs) returns)

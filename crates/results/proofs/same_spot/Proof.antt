@@ -1,0 +1,12 @@
+-- `results::same_spot` meets its contract: word by word.
+use borrow.Author.Needs.{needs}
+use Rattle.results.specs.Results.{sameSpot}
+use Rattle.results.proofs.same_spot.Statement.{statement}
+use Rattle.results.proofs.same_spot.Tie as tie
+
+returns : tie.Need-returns
+unfolding sameSpot
+returns c = cc
+
+pub same-spot-spec : {M : Type 1} → statement M
+same-spot-spec = tie.close (tie.spec (λ c κs. search needs) (λ c κs. search needs) (λ c κs. search needs) (λ c κs. search needs) (λ c κs. search needs) (λ c κs. search needs) (λ c κs. search needs) returns)

@@ -1,0 +1,12 @@
+-- `results::same_word` meets its contract: what its calls ensure, put together.
+use borrow.Author.Needs.{needs}
+use Rattle.results.specs.Results.{sameWord}
+use Rattle.results.proofs.same_word.Statement.{statement}
+use Rattle.results.proofs.same_word.Tie as tie
+
+returns : tie.Need-returns
+unfolding sameWord
+returns c = cc
+
+pub same-word-spec : {M : Type 1} → statement M
+same-word-spec = tie.close (tie.spec (λ c κs. search needs) (λ c κs. search needs) returns)

@@ -1,0 +1,2 @@
+-- What the contracts of `results` cite.
+pub mod Results
