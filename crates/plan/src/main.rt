@@ -22,8 +22,8 @@ fn refuse(refused: u32) {
 }
 
 // The first n bytes.
-fn put_first(bytes: &[u8; BYTES], n: usize) {
-    if n <= BYTES {
+fn put_first(bytes: &[u8], n: usize) {
+    if n <= bytes.len() {
         io::write_all(STDOUT_FILENO, &bytes[..n]);
     }
 }
