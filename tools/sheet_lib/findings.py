@@ -87,6 +87,12 @@ def lines_of(finding):
     return [value for value, field in zip(finding.fields, FORMS[finding.name][0]) if field == 'line']
 
 
+def kinds_of(finding):
+    """The ids of the kinds that a finding is on which is on no line."""
+    fields = FORMS[finding.name][0]
+    return [] if 'line' in fields else [value for value, field in zip(finding.fields, fields) if field == 'id']
+
+
 def in_words(finding, places=None):
     """A finding as a sentence. places: where each line stands in the text that the sheet came from."""
     fields, form = FORMS[finding.name]

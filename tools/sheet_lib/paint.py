@@ -42,13 +42,15 @@ def definitions(count):
     return '<defs>%s</defs>' % ''.join(out)
 
 
-def rect(box, fill, stroke='none', width=1.0, dash='', round_by=0.0, opacity=1.0):
+def rect(box, fill, stroke='none', width=1.0, dash='', round_by=0.0, opacity=1.0, hint=''):
+    """A rectangle. hint: what a browser shows where the pointer rests on it."""
     more = ' stroke="%s" stroke-width="%s"' % (stroke, short(width)) if stroke != 'none' else ''
     more += ' stroke-dasharray="%s"' % dash if dash else ''
     more += ' rx="%s"' % short(round_by) if round_by else ''
     more += ' fill-opacity="%s"' % short(opacity) if opacity < 1 else ''
-    return '<rect x="%s" y="%s" width="%s" height="%s" fill="%s"%s/>' % (
-        short(box.x0), short(box.y0), short(max(0.0, box.x1 - box.x0)), short(max(0.0, box.y1 - box.y0)), fill, more)
+    end = '><title>%s</title></rect>' % escape(hint) if hint else '/>'
+    return '<rect x="%s" y="%s" width="%s" height="%s" fill="%s"%s%s' % (
+        short(box.x0), short(box.y0), short(max(0.0, box.x1 - box.x0)), short(max(0.0, box.y1 - box.y0)), fill, more, end)
 
 
 def text(x, y, words, size=12.0, fill=INK, anchor='start', bold=False, turned=False):

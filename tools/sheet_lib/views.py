@@ -1,5 +1,6 @@
 """What is seen of a case from the front, from the side and from above: where each box falls on the
 page, what hides it, and where a label finds room. All of it in page units, y downwards."""
+import copy
 from collections import namedtuple
 
 from . import load_file
@@ -8,19 +9,19 @@ from . import load_file
 Body = namedtuple('Body', 'place line near far known')
 # A rectangle on the page.
 Rect = namedtuple('Rect', 'x0 y0 x1 y1')
-# A body in a view. near: hidden by those with a larger one. gone: it is wholly past the drawn range.
+# A body in a view. depth: those with a larger one are nearer. gone: it is wholly past the drawn range.
 Face = namedtuple('Face', 'body rect depth gone')
 # One view: name, the axes that run to the right and upwards, the axis one looks along, and whether
 # the far end of that axis (1) or its beginning (-1) is towards the eye.
 View = namedtuple('View', 'name right up along sign')
 
-ABOVE = View('from above', 0, 1, 2, 1)
-FRONT = View('from the front', 0, 2, 1, -1)
-SIDE = View('from the right side', 1, 2, 0, 1)
+ABOVE = View('From above', 0, 1, 2, 1)
+FRONT = View('From the front', 0, 2, 1, -1)
+SIDE = View('From the right side', 1, 2, 0, 1)
 
 # The longest that an axis (x, y, z) may be on the page, and the shortest.
-LONGEST = (560.0, 400.0, 400.0)
-SHORTEST = 64.0
+LONGEST = (600.0, 450.0, 450.0)
+SHORTEST = 72.0
 # How far past the case boxes are drawn, as a share of the case's length on that axis.
 PAST = 0.3
 
@@ -42,6 +43,11 @@ class Axis:
         """Page length from the low end, kept within the drawn range."""
         value = min(max(value, self.low), self.high)
         return (value - self.low) / self.range * self.page
+
+    def scaled(self, by):
+        other = copy.copy(self)
+        other.page = self.page * by
+        return other
 
 
 def bodies_of(sheet):
@@ -104,6 +110,47 @@ def is_hidden(rect, covers):
     return False
 
 
+def is_drawn(face):
+    """Whether a face is a box on the page; what is of an unlisted kind or far outside is not."""
+    return face.body.known and not face.gone
+
+
+def hidden_in(faces):
+    """The places of the boxes that nearer boxes hide whole. The faces come with the farthest first."""
+    hidden = set()
+    for number, face in enumerate(faces):
+        nearer = [other.rect for other in faces[number + 1:] if is_drawn(other)]
+        if is_drawn(face) and is_hidden(face.rect, nearer):
+            hidden.add(face.body.place)
+    return hidden
+
+
+def layers_of(axes, bodies):
+    """The boxes from below in layers. Where one stands over another, the two are in different layers."""
+    layers = []
+    for face in sorted(faces_of(ABOVE, axes, bodies), key=lambda face: (face.body.near[2], face.body.place)):
+        if not is_drawn(face):
+            continue
+        if not layers or any(face.body.near[2] > below.body.near[2] and meet(face.rect, below.rect) for below in layers[-1]):
+            layers.append([])
+        layers[-1].append(face)
+    return [[face.body for face in layer] for layer in layers]
+
+
+def ticks(ends, edges, width_of):
+    """Which marks of an axis get their number: both ends, then those of the rest that have room beside the others.
+
+    ends, edges: pairs of where on the page and what is said there. width_of: how much room words take along the axis.
+    """
+    taken, out = [], []
+    for at, words in list(ends) + sorted(edges):
+        half = width_of(words) / 2
+        if all(at + half <= low or at - half >= high for low, high in taken):
+            taken.append((at - half, at + half))
+            out.append((at, words))
+    return out
+
+
 def spots(rect, width, height):
     """Places for a label in a rectangle: the middle first, then the edges and corners."""
     xs = ((rect.x0 + rect.x1 - width) / 2, rect.x0 + 2, rect.x1 - width - 2)
@@ -113,9 +160,9 @@ def spots(rect, width, height):
             yield Rect(x, y, x + width, y + height)
 
 
-def free_spot(rect, width, height, taken):
-    """The first place in a rectangle where a label meets nothing that is taken, or None."""
-    if width > rect.x1 - rect.x0 - 2 or height > rect.y1 - rect.y0 - 2:
+def free_spot(rect, width, height, taken, air=2.0):
+    """The first place in a rectangle where a label meets nothing that is taken, or None. air: what it must leave free across and down."""
+    if width > rect.x1 - rect.x0 - air or height > rect.y1 - rect.y0 - air:
         return None
     for spot in spots(rect, width, height):
         if not any(meet(spot, other) for other in taken):
