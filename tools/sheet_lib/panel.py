@@ -94,7 +94,7 @@ class Panel:
 
     def key(self, flagged):
         rows = ['In a box: its kind and the number of its line (7 #3: kind 7, line 3).',
-                'Lines are counted from 0. A label is left out where it has no room.']
+                'Lines are counted from 0. A small box has its line alone (#3), or nothing.']
         if flagged:
             rows += ['Red hatching and ! 3: line 3 has a finding. Dashed, and ! 3 in white:',
                      'another box hides it in this view. A cross: a line of no listed kind,',

@@ -161,10 +161,10 @@ class Picture:
         """The largest label that finds room in a box: upright, or along a narrow box. Gives where it went, or None."""
         line, place = face.body.line, face.body.place
         long, short = ('kind %d' % line.id, 'line %d' % place), ('%d' % line.id, '#%d' % place)
-        both, first = (' '.join(short),), short[:1]
+        both, least = (' '.join(short),), short[1:]
         # the size, the rows, whether it is turned, and how much of the box must stay free on both sides of it together
         tries = ((13, long, False, 12), (11, long, False, 10), (11, short, False, 6), (11, both, False, 4), (11, both, True, 4),
-                 (9, short, False, 2), (9, both, False, 2), (9, both, True, 2), (9, short, True, 2), (9, first, False, 2), (9, first, True, 2))
+                 (9, short, False, 2), (9, both, False, 2), (9, both, True, 2), (9, short, True, 2), (9, least, False, 2), (9, least, True, 2))
         for size, rows, turned, air in tries:
             extent = (max(paint.text_width(row, size) for row in rows) + 4, size * 1.15 * len(rows) + 2)
             spot = views.free_spot(face.rect, *(extent[::-1] if turned else extent), taken, air)

@@ -126,15 +126,17 @@ def hidden_in(faces):
 
 
 def layers_of(axes, bodies):
-    """The boxes from below in layers. Where one stands over another, the two are in different layers."""
-    layers = []
+    """The boxes from below in layers: one that stands over nothing is in the first, any other in the one after those below it."""
+    layers, below = [], []
     for face in sorted(faces_of(ABOVE, axes, bodies), key=lambda face: (face.body.near[2], face.body.place)):
         if not is_drawn(face):
             continue
-        if not layers or any(face.body.near[2] > below.body.near[2] and meet(face.rect, below.rect) for below in layers[-1]):
-            layers.append([])
-        layers[-1].append(face)
-    return [[face.body for face in layer] for layer in layers]
+        stands_over = [layer for layer, other in below if other.body.near[2] < face.body.near[2] and meet(face.rect, other.rect)]
+        layer = 1 + max(stands_over, default=-1)
+        below.append((layer, face))
+        layers += [[] for _ in range(layer + 1 - len(layers))]
+        layers[layer].append(face.body)
+    return layers
 
 
 def ticks(ends, edges, width_of):
