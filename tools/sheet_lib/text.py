@@ -4,6 +4,7 @@ A text says what a load file says, one entry to a line. It is read without judgi
 an id that repeats goes into the load file as it stands, and the proved programs refuse it by number.
 What is refused here is what a load file cannot hold, and what is not written as it should be.
 """
+import codecs
 import difflib
 import math
 import re
@@ -48,6 +49,8 @@ MOST_WHOLE = 2 ** 32 - 1
 _NUMBER = re.compile(r'[+-]?([0-9]+(\.[0-9]*)?|\.[0-9]+)([eE][+-]?[0-9]+)?')
 _COMMA = re.compile(r'[+-]?[0-9]+,[0-9]+')
 _WHOLE = re.compile(r'[0-9]+')
+# As different machines end a line.
+_LINE_END = re.compile(r'\r\n|\n|\r')
 
 
 class TextError(Exception):
@@ -64,29 +67,33 @@ class _Fault(Exception):
 
 # ---- words to values
 
+def _quoted(word):
+    """A word for a message: not too long, and with nothing in it that a screen does not show."""
+    word = word if len(word) <= 40 else word[:37] + '...'
+    return "'%s'" % ''.join(letter if letter.isprintable() else '\\x%02x' % ord(letter) for letter in word)
+
+
 def _number(word, name):
     if _COMMA.fullmatch(word):
         raise _Fault("%s: write %s, with a point, not '%s'" % (name, word.replace(',', '.'), word))
     if not _NUMBER.fullmatch(word):
-        raise _Fault("%s: '%s' is not a number" % (name, word))
+        raise _Fault("%s: %s is not a number; write one like 4 or 0.25, and no unit" % (name, _quoted(word)))
     value = float(word)
     if math.isinf(value):
-        raise _Fault("%s: '%s' is too large for a binary64 number" % (name, word))
+        raise _Fault("%s: %s is too large for a binary64 number, of which the largest is some 1.8e308" % (name, _quoted(word)))
     return value
 
 
 def _whole(word, name):
-    if not _WHOLE.fullmatch(word):
-        raise _Fault("%s: '%s' is not a whole number from 0 to %d" % (name, word, MOST_WHOLE))
     digits = word.lstrip('0') or '0'
-    if len(digits) > 10 or int(digits) > MOST_WHOLE:
-        raise _Fault('%s: %s is over %d' % (name, word, MOST_WHOLE))
+    if not _WHOLE.fullmatch(word) or len(digits) > 10 or int(digits) > MOST_WHOLE:
+        raise _Fault("%s: %s is not a whole number from 0 to %d" % (name, _quoted(word), MOST_WHOLE))
     return int(digits)
 
 
 def _rule(word, name):
     if word not in load_file.RULES:
-        raise _Fault("%s: '%s' is not a rule: write any, upright or fixed%s" % (name, word, _near(word, load_file.RULES)))
+        raise _Fault("%s: %s is not a rule: write any, upright or fixed%s" % (name, _quoted(word), _near(word, load_file.RULES)))
     return load_file.RULES.index(word)
 
 
@@ -131,7 +138,8 @@ def _value(field, words):
             taken = taken[:taken.index(word)]
             break
     if len(taken) < count:
-        raise _Fault("%s needs %s after it, and has %s" % (field, names, ' '.join(taken) or 'nothing'))
+        raise _Fault("%s needs %s after it%s, and has %s" % (
+            field, names, ' (three numbers, with spaces between)' if count > 1 else '', _quoted(' '.join(taken)) if taken else 'nothing'))
     values = tuple(reader(word, field) for word in taken)
     return (values if count > 1 else values[0]), words[count:]
 
@@ -140,13 +148,13 @@ def _entry(word, words):
     """The id and the fields of a kind or a line."""
     must, may = _ENTRIES[word]
     if not words or words[0] in _FIELDS:
-        raise _Fault("%s needs an id after it, and has %s" % (word, "'%s'" % words[0] if words else 'nothing'))
+        raise _Fault("%s needs an id after it, and has %s" % (word, _quoted(words[0]) if words else 'nothing'))
     number, words = _whole(words[0], word + ' id'), words[1:]
     known, found = must + tuple(may), dict()
     while words:
         field, words = words[0], words[1:]
         if field not in known:
-            raise _Fault("'%s' is not a field of a %s, which has %s%s" % (field, word, ', '.join(known), _near(field, known)))
+            raise _Fault("%s is not a field of a %s, which has %s%s" % (_quoted(field), word, ', '.join(known), _near(field, known)))
         if field in found:
             raise _Fault('%s is there twice' % field)
         found[field], words = _value(field, words)
@@ -164,6 +172,8 @@ class _Reader:
     def __init__(self):
         self.case, self.kinds, self.lines, self.unplaced = {}, [], [], []
         self.places, self.faults = Places({}, [], [], []), []
+        # whether a line says what the container is, perhaps with a misspelt word
+        self.container = False
 
     def take(self, number, line):
         words = line.split('#', 1)[0].split()
@@ -191,19 +201,22 @@ class _Reader:
             self.unplaced += [_whole(each, 'unplaced id') for each in words]
             self.places.unplaced.extend([number] * len(words))
         else:
-            raise _Fault("a line begins with %s or %s, and not with '%s'%s"
-                         % (', '.join(_WORDS[:-1]), _WORDS[-1], word, _near(word, _WORDS)))
+            near = _near(word, _WORDS)
+            self.container = self.container or 'container' in near
+            raise _Fault("a line begins with %s or %s, and not with %s%s"
+                         % (', '.join(_WORDS[:-1]), _WORDS[-1], _quoted(word), near))
 
     def say_case(self, number, word, words):
         if word in self.places.case:
             raise _Fault('%s is there twice; the first is in line %d' % (word, self.places.case[word]))
         self.places.case[word] = number
+        self.container = self.container or word == 'container'
         self.case[word], rest = _value(word, words)
         if rest:
-            raise _Fault("%s has more after it than %s: '%s'" % (word, _FIELDS[word][2], ' '.join(rest)))
+            raise _Fault("%s has more after it than %s: %s" % (word, _FIELDS[word][2], _quoted(' '.join(rest))))
 
     def sheet(self, count):
-        if 'container' not in self.places.case:
+        if not self.container:
             self.faults.append((count, "the text ends and no line says 'container WIDTH DEPTH HEIGHT'"))
         if self.faults:
             raise TextError(self.faults)
@@ -216,16 +229,24 @@ def read(data):
     """The sheet that a text (bytes, UTF-8) holds, and where its kinds and lines stand. TextError tells every fault."""
     if load_file.looks_like_a_load_file(data):
         raise TextError([(1, 'this is a load file and not a text (a name in .txt is read as a text)')])
-    try:
-        text = data.decode('utf-8-sig')
-    except UnicodeDecodeError as error:
-        line = data[:error.start].count(b'\n') + 1
-        raise TextError([(line, 'there is a byte here that is not UTF-8 text')]) from None
-    reader, lines = _Reader(), text.split('\n')
+    lines = _LINE_END.split(_decoded(data))
+    reader = _Reader()
     for number, line in enumerate(lines, 1):
         reader.take(number, line)
     count = len(lines) - 1 if len(lines) > 1 and not lines[-1] else len(lines)
     return reader.sheet(count), reader.places
+
+
+def _decoded(data):
+    if data.startswith((codecs.BOM_UTF16_LE, codecs.BOM_UTF16_BE)):
+        raise TextError([(1, 'this is UTF-16 text; save it as UTF-8')])
+    data = data[len(codecs.BOM_UTF8):] if data.startswith(codecs.BOM_UTF8) else data
+    try:
+        return data.decode('utf-8')
+    except UnicodeDecodeError as error:
+        # what stands before the byte is good UTF-8
+        line = len(_LINE_END.split(data[:error.start].decode('utf-8')))
+        raise TextError([(line, 'the byte %02X here is not UTF-8 text; save the file as UTF-8' % data[error.start])]) from None
 
 
 # ---- values to text
