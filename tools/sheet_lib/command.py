@@ -1,5 +1,4 @@
 """What the commands of tools/sheet and ./waikurpeho share: files in and out, and errors that a person can act on."""
-import difflib
 import os
 import sys
 
@@ -109,7 +108,9 @@ def put(out, data, inputs):
         with open(out, 'wb') as target:
             target.write(data)
     except OSError as error:
-        raise Problem('%s cannot be written: %s' % (out, error.strerror)) from None
+        folder = os.path.dirname(out) or '.'
+        why = error.strerror if os.path.isdir(folder) else 'there is no folder ' + folder
+        raise Problem('%s cannot be written: %s' % (out, why)) from None
 
 
 def as_text(sheet, name):
@@ -164,9 +165,7 @@ def _run(commands, words):
     if name in ('-h', '--help'):
         name = 'help'
     if name not in commands:
-        near = difflib.get_close_matches(name, list(commands), 1)
-        hint = " (did you mean '%s'?)" % near[0] if near else ''
-        raise Problem("there is no command '%s'%s; the commands are %s" % (name, hint, ', '.join(commands)))
+        raise Problem("there is no command '%s'%s; the commands are %s" % (name, text.near(name, commands), ', '.join(commands)))
     if words in (['-h'], ['--help']):
         name, words = 'help', [name]
     return commands[name](words)

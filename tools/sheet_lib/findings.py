@@ -28,11 +28,12 @@ FORMS = {
 
 REFUSALS = {
     1: 'the shape of the load file is wrong',
-    2: 'a count or the total quantity is over its bound',
-    3: 'a measure or a position is outside its range',
+    2: 'too many: at most 64 kinds, 256 boxes of all kinds together, 256 lines and 256 unplaced ids',
+    3: 'a number is outside its range: a length is 0.000001 to 1,000,000,000; margin, spacing and mass 0 to 1,000,000,000; '
+       'a mass limit above 0 to 1,000,000,000,000; a position -1,000,000,000 to 1,000,000,000; and none of them but a position -0',
     4: 'a kind has quantity 0 (or its record has a wrong rule, mass flag, filler or mass)',
     5: "an id repeats an earlier kind's",
-    6: 'there are more findings than the program has room for',
+    6: 'there are more findings than the program has room for, which is 1,600',
     7: 'the placer already holds as many boxes as it can',
     8: 'a length of the container or of a kind is not whole or is over 10,000, so there is no fill per thousand',
     9: "an instance list holds a kind past the order's kinds",

@@ -36,7 +36,7 @@ def program(name):
 
 def build(name, path):
     if not shutil.which('rt'):
-        raise Problem('%s must be built first, and rt is not on the path: install the Rattle toolchain' % name)
+        raise Problem('%s must be built first, and rt is not on the PATH: install the Rattle toolchain, or add the folder of rt to PATH' % name)
     print('waikurpeho: building %s: it and all that it rests on are proved first, which takes a while' % name, file=sys.stderr)
     done = subprocess.run(['rt', 'check', name], cwd=ROOT, stdin=subprocess.DEVNULL, stdout=sys.stderr)
     if done.returncode or not os.path.isfile(path):
@@ -59,7 +59,7 @@ def runner():
         return []
     raise Problem('the programs are for x86-64, this machine is %s, and %s' % (
         machine, 'the toolchain at %s has no emulator for it' % home if home else
-        'rt is not on the path: its toolchain has the emulator'))
+        'rt is not on the PATH: its toolchain has the emulator'))
 
 
 def toolchain():

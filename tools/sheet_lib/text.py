@@ -93,7 +93,7 @@ def _whole(word, name):
 
 def _rule(word, name):
     if word not in load_file.RULES:
-        raise _Fault("%s: %s is not a rule: write any, upright or fixed%s" % (name, _quoted(word), _near(word, load_file.RULES)))
+        raise _Fault("%s: %s is not a rule: write any, upright or fixed%s" % (name, _quoted(word), near(word, load_file.RULES)))
     return load_file.RULES.index(word)
 
 
@@ -106,9 +106,10 @@ def _limit(word, name):
     return value
 
 
-def _near(word, words):
-    near = difflib.get_close_matches(word.lower(), words, 1)
-    return " (did you mean '%s'?)" % near[0] if near else ''
+def near(word, words):
+    """A question after one of the words, if a word is like it, else nothing."""
+    found = difflib.get_close_matches(word.lower(), list(words), 1)
+    return " (did you mean '%s'?)" % found[0] if found else ''
 
 
 # Each field's value: how many words, how each is read, what to call them.
@@ -154,7 +155,7 @@ def _entry(word, words):
     while words:
         field, words = words[0], words[1:]
         if field not in known:
-            raise _Fault("%s is not a field of a %s, which has %s%s" % (_quoted(field), word, ', '.join(known), _near(field, known)))
+            raise _Fault("%s is not a field of a %s, which has %s%s" % (_quoted(field), word, ', '.join(known), near(field, known)))
         if field in found:
             raise _Fault('%s is there twice' % field)
         found[field], words = _value(field, words)
@@ -201,10 +202,10 @@ class _Reader:
             self.unplaced += [_whole(each, 'unplaced id') for each in words]
             self.places.unplaced.extend([number] * len(words))
         else:
-            near = _near(word, _WORDS)
-            self.container = self.container or 'container' in near
+            meant = near(word, _WORDS)
+            self.container = self.container or 'container' in meant
             raise _Fault("a line begins with %s or %s, and not with %s%s"
-                         % (', '.join(_WORDS[:-1]), _WORDS[-1], _quoted(word), near))
+                         % (', '.join(_WORDS[:-1]), _WORDS[-1], _quoted(word), meant))
 
     def say_case(self, number, word, words):
         if word in self.places.case:
