@@ -28,15 +28,24 @@ FORMS = {
 
 REFUSALS = {
     1: 'the shape of the load file is wrong',
-    2: 'too many: at most 64 kinds, 256 boxes of all kinds together, 256 lines and 256 unplaced ids',
-    3: 'a number is outside its range: a length is 0.000001 to 1,000,000,000; margin, spacing and mass 0 to 1,000,000,000; '
-       'a mass limit above 0 to 1,000,000,000,000; a position -1,000,000,000 to 1,000,000,000; and none of them but a position -0',
+    2: 'a count or the total quantity is over its bound',
+    3: 'a measure or a position is outside its range',
     4: 'a kind has quantity 0 (or its record has a wrong rule, mass flag, filler or mass)',
     5: "an id repeats an earlier kind's",
     6: 'there are more findings than the program has room for, which is 1,600',
     7: 'the placer already holds as many boxes as it can',
     8: 'a length of the container or of a kind is not whole or is over 10,000, so there is no fill per thousand',
     9: "an instance list holds a kind past the order's kinds",
+}
+
+# What refusals 2 and 3 ask of the entry of a text that brings them.
+BOUNDS = {
+    2: {'kind': 'at most 64 kinds, and 256 boxes of all kinds together', 'line': 'at most 256 lines', 'unplaced': 'at most 256 ids'},
+    3: {'container': 'a length is from 0.000001 to 1,000,000,000',
+        'margin': 'it is from 0 to 1,000,000,000, and not -0', 'spacing': 'it is from 0 to 1,000,000,000, and not -0',
+        'limit': 'it is above 0, and 1,000,000,000,000 or less',
+        'kind': 'a length is from 0.000001 to 1,000,000,000, a mass from 0 to 1,000,000,000 and not -0',
+        'line': 'a position is from -1,000,000,000 to 1,000,000,000'},
 }
 
 _BITS = re.compile(r'[0-9A-F]{16}')
@@ -109,5 +118,7 @@ def _plain(value):
     return repr(value) if value != value or value in (float('inf'), float('-inf')) else text.number(value)
 
 
-def refusal_in_words(number):
-    return REFUSALS.get(number, 'a number that this tool has no words for')
+def refusal_in_words(number, entry=None):
+    """A refusal as a sentence. entry: the first word of the text line that brings it."""
+    asked = BOUNDS.get(number, {}).get(entry)
+    return REFUSALS.get(number, 'a number that this tool has no words for') + (': ' + asked if asked else '')

@@ -21,10 +21,10 @@ def _first_part(sheet, words):
                            sheet.unplaced[:words.count('unplaced')])
 
 
-def line_of(sheet, places, number, refusal_of):
-    """The text line without which, and without what follows it, the refusal is not this number; None if there is none.
+def entry_of(sheet, places, number, refusal_of):
+    """The entry without which, and without what follows it, the refusal is not this number: its first word and its line.
 
-    refusal_of: the number that a program gives for a load file's bytes.
+    Two times None if there is none. refusal_of: the number that a program gives for a load file's bytes.
     """
     pieces = _pieces(places)
     words = [word for word, _ in pieces]
@@ -34,8 +34,8 @@ def line_of(sheet, places, number, refusal_of):
 
     low, high = 0, len(pieces)
     if refused(low) or not refused(high):
-        return None
+        return None, None
     while high - low > 1:
         middle = (low + high) // 2
         low, high = (low, middle) if refused(middle) else (middle, high)
-    return pieces[high - 1][1]
+    return pieces[high - 1]
