@@ -9,6 +9,7 @@ import shutil
 import subprocess
 import sys
 
+from . import findings
 from .command import Problem
 
 ROOT = os.path.dirname(os.path.dirname(os.path.dirname(os.path.realpath(__file__))))
@@ -86,3 +87,13 @@ def run(name, data, words=()):
 def strange(name, status, said):
     """A program said something that it does not say."""
     return Problem('%s ended with status %d and wrote nothing that is known here%s' % (name, status, ': ' + said[:300] if said else ''))
+
+
+def checked(data):
+    """What the check program prints, and its meaning."""
+    wrote, said, status = run(CHECK, data)
+    exact = wrote.decode('utf-8', 'replace')
+    try:
+        return exact, findings.read(exact)
+    except findings.FindingsError:
+        raise strange(CHECK, status, exact.strip() or said) from None
