@@ -54,7 +54,7 @@ class Panel:
         self.rows(0, ['case %s (width × depth × height)' % _say_all(sheet.size),
                       'margin %s, spacing %s, mass limit %s' % (say(sheet.margin), say(sheet.spacing), limit),
                       '%s, %s' % (_count(sheet.lines, 'line'), _count(sheet.kinds, 'kind'))])
-        self.rows(0, textwrap.wrap('unplaced: ' + unplaced + (' ...' if len(sheet.unplaced) > 40 else ''), 60))
+        self.rows(0, textwrap.wrap('unplaced kinds: ' + unplaced + (' ...' if len(sheet.unplaced) > 40 else ''), 60))
 
     def banner(self, result):
         if result is None:

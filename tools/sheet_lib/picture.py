@@ -60,8 +60,10 @@ class Picture:
         return max([paint.text_width(words, TICK) for words in said] + [30.0])
 
     def layers(self, axes, bodies, left, y):
-        """Every box from above, layer by layer. Gives the height where it ends."""
+        """Every box from above, layer by layer, if there is more than one layer. Gives the height where it ends."""
         layers = views.layers_of(axes, bodies)
+        if len(layers) < 2:
+            return y
         self.add(paint.text(24, y + 20, 'Layer by layer from below, as some boxes are hidden in each view above', 13, bold=True))
         small = [axis.scaled(SMALLER) for axis in axes]
         step = max(small[0].page, NARROWEST) + left
