@@ -16,7 +16,7 @@ class Problem(Exception):
 # ---- words of the command line
 
 def take_output(words):
-    """Takes '-o NAME' out of the words. Gives the rest and NAME, or None."""
+    """Takes '-o NAME' out of the words. Gives the rest and NAME, or None. A folder that is not there is told before anything runs."""
     if '-o' not in words:
         return words, None
     at = words.index('-o')
@@ -25,7 +25,10 @@ def take_output(words):
     rest = words[:at] + words[at + 2:]
     if '-o' in rest:
         raise Problem('-o is there twice')
-    return rest, words[at + 1]
+    out = words[at + 1]
+    if not os.path.isdir(os.path.dirname(out) or '.'):
+        raise Problem('%s cannot be written: there is no folder %s' % (out, os.path.dirname(out)))
+    return rest, out
 
 
 def want(words, count, usage):
@@ -108,9 +111,7 @@ def put(out, data, inputs):
         with open(out, 'wb') as target:
             target.write(data)
     except OSError as error:
-        folder = os.path.dirname(out) or '.'
-        why = error.strerror if os.path.isdir(folder) else 'there is no folder ' + folder
-        raise Problem('%s cannot be written: %s' % (out, why)) from None
+        raise Problem('%s cannot be written: %s' % (out, error.strerror)) from None
 
 
 def as_text(sheet, name):

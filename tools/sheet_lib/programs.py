@@ -28,20 +28,35 @@ def program(name):
             raise Problem('WAIKURPEHO_PROGRAMS is %s, and there is no program %s in it' % (folder, name))
         print('waikurpeho: %s is taken from %s and is not the proved one of this repository' % (name, folder), file=sys.stderr)
         return [path]
-    path = os.path.join(ROOT, 'target', 'bin', name)
+    if not is_built(name):
+        build([name])
+    return runner() + [path_of(name)]
+
+
+def path_of(name):
+    return os.path.join(ROOT, 'target', 'bin', name)
+
+
+def is_built(name):
     # rt leaves the stamp once a program is proved and its own run went well
-    if not (os.path.isfile(path) and os.path.isfile(os.path.join(ROOT, 'target', 'stamp', name))):
-        build(name, path)
-    return runner() + [path]
+    return os.path.isfile(path_of(name)) and os.path.isfile(os.path.join(ROOT, 'target', 'stamp', name))
 
 
-def build(name, path):
+def build_missing(names):
+    """Builds what is missing of some programs in one go, which is quicker than one by one."""
+    missing = [name for name in names if not is_built(name)]
+    if missing and not os.environ.get('WAIKURPEHO_PROGRAMS'):
+        build(missing)
+
+
+def build(names):
+    said = ' '.join(names)
     if not shutil.which('rt'):
-        raise Problem('%s must be built first, and rt is not on the PATH: install the Rattle toolchain, or add the folder of rt to PATH' % name)
-    print('waikurpeho: building %s: it and all that it rests on are proved first, which takes a while' % name, file=sys.stderr)
-    done = subprocess.run(['rt', 'check', name], cwd=ROOT, stdin=subprocess.DEVNULL, stdout=sys.stderr)
-    if done.returncode or not os.path.isfile(path):
-        raise Problem("'rt check %s' failed with status %d, so the program cannot be run" % (name, done.returncode))
+        raise Problem('%s must be built first, and rt is not on the PATH: install the Rattle toolchain, or add the folder of rt to PATH' % said)
+    print('waikurpeho: building %s: all that it rests on is proved first, which takes ten to twenty minutes from nothing' % said, file=sys.stderr)
+    done = subprocess.run(['rt', 'check'] + names, cwd=ROOT, stdin=subprocess.DEVNULL, stdout=sys.stderr)
+    if done.returncode or not all(map(is_built, names)):
+        raise Problem("'rt check %s' failed with status %d, so nothing can be run" % (said, done.returncode))
 
 
 @functools.lru_cache(maxsize=None)
