@@ -22,10 +22,20 @@ row-bound zero = omega arith
 row-bound (suc zero) = omega arith
 row-bound (suc (suc r)) = omega arith
 
-pub counts : (r : ℕ) → getD (6 ∷ 2 ∷ 1 ∷ []) (rowOf r) 0 ≡ length (shareOf r)
-counts zero = refl
-counts (suc zero) = refl
-counts (suc (suc r)) = refl
+pub fixed-count : (r : ℕ) → (r ≡ 0 → ⊥) → (r ≡ 1 → ⊥) → 1 ≡ length (shareOf r)
+fixed-count zero a b = absurd (a refl)
+fixed-count (suc zero) a b = absurd (b refl)
+fixed-count (suc (suc r)) a b = refl
+
+-- the share of "any" is the whole table
+pub any-share : (i : ℕ) → i < 6 → i ≡ getD (shareOf 0) i 0
+any-share zero h = refl
+any-share (suc zero) h = refl
+any-share (suc (suc zero)) h = refl
+any-share (suc (suc (suc zero))) h = refl
+any-share (suc (suc (suc (suc zero)))) h = refl
+any-share (suc (suc (suc (suc (suc zero))))) h = refl
+any-share (suc (suc (suc (suc (suc (suc i)))))) h = absurd (omega arith)
 
 pub share-few : (r : ℕ) → length (shareOf r) ≤ 6
 share-few zero = omega arith

@@ -40,8 +40,6 @@ const ORDERS: [[u8; 3]; 6] = [
 
 const SHARES: [[u8; 6]; 3] = [[0, 1, 2, 3, 4, 5], [0, 2, 0, 0, 0, 0], [0, 0, 0, 0, 0, 0]];
 
-const COUNTS: [u8; 3] = [6, 2, 1];
-
 // Three lengths in each of the six orders.
 pub const SIX: usize = 18;
 
@@ -59,7 +57,13 @@ fn row(rule: u8) -> usize
 pub fn allowed_orientations(rule: u8) -> usize
     ensures { λ r. ⌜ r ≡ length (shareOf rule) ⌝ }
 {
-    COUNTS[row(rule)] as usize
+    if rule == 0 {
+        return 6;
+    }
+    if rule == 1 {
+        return 2;
+    }
+    1
 }
 
 // The row of the rule's orientation i.
@@ -67,6 +71,10 @@ fn share(rule: u8, i: usize) -> usize
     requires { ⌜ i < length (shareOf rule) ⌝ }
     ensures { λ r. ⌜ (r ≡ getD (shareOf rule) i 0) × (r < 6) ⌝ }
 {
+    // the first line is 0 to 5, and most kinds have that rule
+    if rule == 0 {
+        return i;
+    }
     SHARES[row(rule)][i] as usize
 }
 

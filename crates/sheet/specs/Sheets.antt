@@ -1,11 +1,11 @@
 -- What a sheet holds, and the refusal that it gets: 01's table from 2 on, in 01's order.
 use Prim.Native.Nat.{ℕ, zero, suc}
 use mathlib.Core.Bool.{Bool, not, _&&_, _||_, cond}
-use mathlib.Core.List.{List, []}
+use mathlib.Core.List.{List, [], _∷_}
 use lib.Dec.{eqb, ltb, leb}
 use lib.ListN.{getD, set, replicate}
-use lib.Ieee.{nan}
-use Rattle.floats.specs.Ops.{x, y, z}
+use lib.Ieee.{Float, nan}
+use Rattle.floats.specs.Ops.{none, x, y, z}
 use Rattle.domain.specs.Bounds.{mostKinds, mostBoxes, mostLines, mostUnplaced}
 use Rattle.domain.specs.Ranges.{isPosition}
 use Rattle.domain.specs.Refusals.{when, orElse, firstBelow, anyBelow, sumBelow}
@@ -22,6 +22,26 @@ noKind = record { id = 0; quantity = 0; size = []; mass = nan; rule = 0; massed 
 
 abbrev pub noLine : Line
 noLine = record { id = 0; instance = 0; orientation = 0; bin = 0; at = [] }
+
+-- ---- cells of a sheet past those that count are blank, and a sheet with nothing in it is blank throughout: it is refused by 3 wherever it is handed in
+abbrev pub blankVector : List Float
+blankVector = none ∷ none ∷ none ∷ []
+
+abbrev pub blankKind : Kind
+blankKind = record { id = 0; quantity = 0; size = blankVector; mass = none; rule = 0; massed = 0; filler = 0 }
+
+abbrev pub blankLine : Line
+blankLine = record { id = 0; instance = 0; orientation = 0; bin = 0; at = blankVector }
+
+unfoldable pub emptySheet : Sheet
+emptySheet =
+    record {
+      many = record { kinds = 0; lines = 0; unplaced = 0 };
+      container = record { size = blankVector; margin = none; spacing = none; limit = none };
+      kinds = replicate mostKinds blankKind;
+      lines = replicate mostLines blankLine;
+      unplaced = replicate mostUnplaced 0;
+    }
 
 -- kind k, line i, unplaced id i
 abbrev pub kindAt : Sheet → ℕ → Kind

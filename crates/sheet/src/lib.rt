@@ -5,7 +5,7 @@ ghost use Prim.Native.Nat.{_≤_, _<_};
 ghost use lib.ListN.{getD};
 ghost use Rattle.domain.specs.Bounds.{mostKinds, mostLines};
 ghost use Rattle.domain.specs.Refusals.{firstBelow, sumBelow};
-ghost use Rattle.sheet.specs.Sheets.{overCount, among, idsBelow, quantityOf, boxesIn, kindFaultIn, lineFault, lineFaultIn, sheetRefusal};
+ghost use Rattle.sheet.specs.Sheets.{emptySheet, overCount, among, idsBelow, quantityOf, boxesIn, kindFaultIn, lineFault, lineFaultIn, sheetRefusal};
 use measures::Container;
 use measures::Kind;
 
@@ -31,6 +31,47 @@ pub struct Sheet {
     pub kinds: [Kind; domain::MOST_KINDS],
     pub lines: [Line; domain::MOST_LINES],
     pub unplaced: [u32; domain::MOST_UNPLACED],
+}
+
+// A sheet with nothing in it. Its container has no size, so it is refused by 3 wherever it is handed in.
+pub fn empty_sheet() -> Sheet
+    ensures { λ r. ⌜ r ≡ emptySheet ⌝ }
+{
+    let none = [0.0, 0.0, 0.0];
+    let many = Counts {
+        kinds: 0,
+        lines: 0,
+        unplaced: 0,
+    };
+    let container = Container {
+        size: none,
+        margin: 0.0,
+        spacing: 0.0,
+        limit: 0.0,
+    };
+    let kind = Kind {
+        id: 0,
+        quantity: 0,
+        size: none,
+        mass: 0.0,
+        rule: 0,
+        massed: 0,
+        filler: 0,
+    };
+    let line = Line {
+        id: 0,
+        instance: 0,
+        orientation: 0,
+        bin: 0,
+        at: none,
+    };
+    Sheet {
+        many,
+        container,
+        kinds: [kind; domain::MOST_KINDS],
+        lines: [line; domain::MOST_LINES],
+        unplaced: [0u32; domain::MOST_UNPLACED],
+    }
 }
 
 // Whether a count is over its bound.

@@ -1,25 +1,16 @@
--- `measures::allowed_orientations` meets its contract: the table of counts has the length of each share.
-use native.Mathlib.Omega.{arith}
-use Rattle.measures.proofs.Tables.{row-bound, counts, share-few}
-use borrow.Author.Needs.{needs}
+-- `measures::allowed_orientations` meets its contract, by the test that led to each return.
+use Rattle.measures.proofs.Tables.{fixed-count}
 use Rattle.measures.proofs.allowed_orientations.Statement.{statement}
 use Rattle.measures.proofs.allowed_orientations.Tie as tie
 
-array-read-result : tie.Need-array-read-result
-array-read-result c = rw (c .row .ensures) (row-bound (c .before .args .rule))
-
-cast-result : tie.Need-cast-result
-cast-result c =
-    rw (c .row .ensures) (let h = share-few (c .before .args .rule) in let e = counts (c .before .args .rule) in record { fits = omega arith })
-
 returns : tie.Need-returns
-returns c = rw (c .row .ensures) (counts (c .before .args .rule))
+returns c = rw (c .if1 .taken)
+
+returns-2 : tie.Need-returns-2
+returns-2 c = rw (c .if2 .taken)
+
+returns-3 : tie.Need-returns-3
+returns-3 c = fixed-count _ (c .before .if1 .left) (c .if2 .left)
 
 pub allowed-orientations-spec : {M : Type 1} → statement M
-allowed-orientations-spec =
-    tie.close
-    (tie.spec
-    (λ c κs. search needs)
-    array-read-result
-    cast-result
-    returns)
+allowed-orientations-spec = tie.close (tie.spec returns returns-2 returns-3)
