@@ -12,10 +12,10 @@ use Rattle.sheet.specs.declared.Counts.{Counts}
 use Rattle.sheet.specs.declared.Line.{Line}
 use Rattle.sheet.specs.declared.Sheet.{Sheet}
 use Rattle.sheet.specs.Sheets.{kindAt, lineAt, unplacedAt}
-use Rattle.load_file.specs.Bytes.{le2, le4, part, allBelow}
-use Rattle.load_file.specs.Form.{blockBytes, kindBytes, lineBytes, idBytes, trailerBytes, form}
-use Rattle.load_file.specs.Writing.{floatOut, threeOut, containerOut, kindOut, lineOut, kindsOut, linesOut, idsOut, trailerOut, linesFrom, unplacedFrom, trailerFrom, fileOf}
-use Rattle.load_file.specs.Stores.{le4-length, container-length, kind-length, line-length, trailer-length, kinds-length, lines-length, ids-length}
+use Rattle.read_file.specs.Bytes.{le2, le4, part, allBelow}
+use Rattle.read_file.specs.Form.{blockBytes, kindBytes, lineBytes, idBytes, trailerBytes, form}
+use Rattle.write_file.specs.Writing.{floatOut, threeOut, containerOut, kindOut, lineOut, kindsOut, linesOut, idsOut, trailerOut, linesFrom, unplacedFrom, trailerFrom, fileOf}
+use Rattle.write_file.specs.Stores.{le4-length, container-length, kind-length, line-length, trailer-length, kinds-length, lines-length, ids-length}
 use Rattle.load_file.specs.Parts.{Bytes, part-first, part-second, part-all, bytes-nil, bytes-cons, bytes-append, bytes-bytes, le2-is, le4-is, le8-is}
 use Rattle.load_file.specs.Sections.{all-bytes, all-part}
 

@@ -1,10 +1,7 @@
--- The load file, form 1: numbers in bytes, the shape, what a file says, how a sheet is written, and that the two undo each other.
+-- The load file, form 1: what the two calls answer, and that they undo each other.
 pub mod Bytes
-pub mod Form
-pub mod Shaped
 pub mod Reading
 pub mod Writing
-pub mod Stores
 pub mod Parts
 pub mod Sections
 pub mod Numbers

@@ -8,7 +8,7 @@ use native.Mathlib.Numerals.{towards-suc}
 use native.Mathlib.Omega.{arith}
 use lib.ListN.{length, getD, take, drop, length-drop}
 use lib.Seq.{drop-cons, drop-drop, take-add, getD-take, getD-drop, drop-append-add, drop-append-le, take-append-le, take-all, take-take}
-use Rattle.load_file.specs.Bytes.{u16At, u32At, u64At, le2, le4, le8, part}
+use Rattle.read_file.specs.Bytes.{u16At, u32At, u64At, le2, le4, le8, part}
 
 -- each entry is a byte
 abbrev pub Bytes : List ℕ → Type 0

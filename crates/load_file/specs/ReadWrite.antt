@@ -14,13 +14,13 @@ use Rattle.domain.specs.Laws.{not-true-of, or-else-first, or-else-second, when-
 use Rattle.sheet.specs.declared.Counts.{Counts}
 use Rattle.sheet.specs.Sheets.{noKind, noLine, sheetRefusal}
 use Rattle.sheet.specs.Accepted.{Accepted, accepted}
-use Rattle.load_file.specs.Bytes.{u32At, u64At, le2, le4, part}
-use Rattle.load_file.specs.Form.{blockBytes, kindBytes, lineBytes, idBytes, trailerBytes, form, trailer, linesStart, unplacedStart, trailerStart, rightShape, countsOf}
-use Rattle.load_file.specs.Reading.{f64At, threeAt, containerFrom, kindFrom, lineFrom, kindPlace, kindsOf, linesOf, idsOf, sheetOf, refusalOf}
-use Rattle.load_file.specs.Writing.{floatOut, threeOut, containerOut, kindOut, lineOut, kindsOut, linesOut, idsOut, trailerOut, linesFrom, unplacedFrom, trailerFrom, fileOf}
+use Rattle.read_file.specs.Bytes.{u32At, u64At, le2, le4, part}
+use Rattle.read_file.specs.Form.{blockBytes, kindBytes, lineBytes, idBytes, trailerBytes, form, trailer, linesStart, unplacedStart, trailerStart, rightShape, countsOf}
+use Rattle.read_file.specs.Reading.{f64At, threeAt, containerFrom, kindFrom, lineFrom, kindPlace, kindsOf, linesOf, idsOf, sheetOf, refusalOf}
+use Rattle.write_file.specs.Writing.{floatOut, threeOut, containerOut, kindOut, lineOut, kindsOut, linesOut, idsOut, trailerOut, linesFrom, unplacedFrom, trailerFrom, fileOf}
 use Rattle.load_file.specs.Parts.{Bytes, joined, part-all, le2-u16, le4-u32, le8-u64, u64-below}
 use Rattle.load_file.specs.Sections.{all-is-part, kinds-at, lines-at, ids-at}
-use Rattle.load_file.specs.Shaped.{Shaped, shaped}
+use Rattle.read_file.specs.Shaped.{Shaped, shaped}
 use Rattle.load_file.specs.Numbers.{IsNumber, Numbers, ContainerNumbers, KindNumbers, container-numbers, kind-numbers, line-numbers}
 
 -- ---- records: what was read from a place is written as the bytes there

@@ -11,11 +11,11 @@ use borrow.Author.Tests.{eqb-true, eqb-false, leb-true, le-leb}
 use Rattle.sheet.specs.declared.Sheet.{Sheet}
 use Rattle.sheet.specs.Sheets.{sheetRefusal}
 use Rattle.sheet.specs.Accepted.{accepted}
-use Rattle.load_file.specs.declared.Written.{Written}
-use Rattle.load_file.specs.Reading.{sheetOf, refusalOf, readOf}
-use Rattle.load_file.specs.Writing.{fileOf, fileLength, writtenOf, bytesAfter}
+use Rattle.write_file.specs.declared.Written.{Written}
+use Rattle.read_file.specs.Reading.{sheetOf, refusalOf, readOf}
+use Rattle.write_file.specs.Writing.{fileOf, fileLength, writtenOf, bytesAfter}
 use Rattle.load_file.specs.Parts.{Bytes}
-use Rattle.load_file.specs.Stores.{file-length-is}
+use Rattle.write_file.specs.Stores.{file-length-is}
 use Rattle.load_file.specs.Typed.{Typed}
 use Rattle.load_file.specs.Tidy.{tidy, Blank, tidy-blank}
 use Rattle.load_file.specs.ReadWrite.{read-write, same-file, sheet-accepted}

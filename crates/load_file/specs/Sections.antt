@@ -10,10 +10,10 @@ use lib.ListN.{length, getD, length-set, length-replicate, getD-replicate}
 use lib.Seq.{getD-set-same, getD-set-other, ext-getD}
 use Rattle.domain.specs.Bounds.{mostKinds, mostLines, mostUnplaced}
 use Rattle.sheet.specs.Sheets.{noKind, noLine}
-use Rattle.load_file.specs.Bytes.{u32At, part, allBelow}
-use Rattle.load_file.specs.Form.{lineBytes, idBytes}
-use Rattle.load_file.specs.Reading.{kindFrom, lineFrom, kindPlace, blankKind, blankLine, table, kindsOf, linesOf, idsOf}
-use Rattle.load_file.specs.Stores.{all-length}
+use Rattle.read_file.specs.Bytes.{u32At, part, allBelow}
+use Rattle.read_file.specs.Form.{lineBytes, idBytes}
+use Rattle.read_file.specs.Reading.{kindFrom, lineFrom, kindPlace, blankKind, blankLine, table, kindsOf, linesOf, idsOf}
+use Rattle.write_file.specs.Stores.{all-length}
 use Rattle.load_file.specs.Parts.{Bytes, joined, part-first, part-second, part-all, bytes-nil, bytes-append}
 
 -- what holds below n + 1 holds below n

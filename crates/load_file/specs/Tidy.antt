@@ -12,10 +12,10 @@ use Rattle.measures.specs.declared.Kind.{Kind}
 use Rattle.sheet.specs.declared.Sheet.{Sheet}
 use Rattle.sheet.specs.Sheets.{noKind, noLine, kindAt, lineAt, unplacedAt, sameId, kindFaultIn, quantityOf, lineFaultIn, sheetRefusal}
 use Rattle.sheet.specs.Accepted.{Few}
-use Rattle.load_file.specs.Bytes.{u32At, le4}
-use Rattle.load_file.specs.Form.{linesStart, unplacedStart, countsOf}
-use Rattle.load_file.specs.Reading.{kindFrom, lineFrom, kindPlace, linePlace, idPlace, blankKind, blankLine, table, kindsOf, linesOf, idsOf, sheetOf}
-use Rattle.load_file.specs.Writing.{kindOut, lineOut, kindsOut, linesOut, idsOut, fileOf}
+use Rattle.read_file.specs.Bytes.{u32At, le4}
+use Rattle.read_file.specs.Form.{linesStart, unplacedStart, countsOf}
+use Rattle.read_file.specs.Reading.{kindFrom, lineFrom, kindPlace, linePlace, idPlace, blankKind, blankLine, table, kindsOf, linesOf, idsOf, sheetOf}
+use Rattle.write_file.specs.Writing.{kindOut, lineOut, kindsOut, linesOut, idsOut, fileOf}
 use Rattle.load_file.specs.Sections.{all-same, table-at, table-past, table-same, table-is, kinds-at, lines-at, ids-at}
 use Rattle.load_file.specs.Typed.{Typed}
 

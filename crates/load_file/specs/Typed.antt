@@ -15,9 +15,9 @@ use Rattle.sheet.specs.declared.Line.{Line}
 use Rattle.sheet.specs.declared.Sheet.{Sheet}
 use Rattle.sheet.specs.Sheets.{noKind, noLine, kindAt, lineAt, unplacedAt}
 use Rattle.sheet.specs.Accepted.{Few}
-use Rattle.load_file.specs.Bytes.{u32At, u64At}
-use Rattle.load_file.specs.Form.{countsOf}
-use Rattle.load_file.specs.Reading.{f64At, threeAt, containerFrom, kindFrom, lineFrom, kindPlace, linePlace, idPlace, blankVector, blankKind, blankLine, kindsOf, linesOf, idsOf, sheetOf}
+use Rattle.read_file.specs.Bytes.{u32At, u64At}
+use Rattle.read_file.specs.Form.{countsOf}
+use Rattle.read_file.specs.Reading.{f64At, threeAt, containerFrom, kindFrom, lineFrom, kindPlace, linePlace, idPlace, blankVector, blankKind, blankLine, kindsOf, linesOf, idsOf, sheetOf}
 use Rattle.load_file.specs.Parts.{Bytes, u16-below, u32-below}
 use Rattle.load_file.specs.Sections.{table-length, table-each}
 

@@ -17,14 +17,14 @@ use Rattle.sheet.specs.declared.Line.{Line}
 use Rattle.sheet.specs.declared.Sheet.{Sheet}
 use Rattle.sheet.specs.Sheets.{kindAt, lineAt, unplacedAt, sheetRefusal}
 use Rattle.sheet.specs.Accepted.{Few, accepted}
-use Rattle.load_file.specs.Bytes.{u16At, u32At, le2, le4, le8, part}
-use Rattle.load_file.specs.Form.{blockBytes, kindBytes, lineBytes, idBytes, trailerBytes, mostBytes, form, trailer, kindsStart, linesStart, unplacedStart, trailerStart, placed, whole, rightShape, countsOf}
-use Rattle.load_file.specs.Reading.{f64At, threeAt, containerFrom, kindFrom, lineFrom, kindPlace, blankKind, blankLine, kindsOf, linesOf, idsOf, sheetOf, refusalOf}
-use Rattle.load_file.specs.Writing.{floatOut, threeOut, containerOut, kindOut, lineOut, trailerOut, linesFrom, unplacedFrom, trailerFrom, fileOf}
+use Rattle.read_file.specs.Bytes.{u16At, u32At, le2, le4, le8, part}
+use Rattle.read_file.specs.Form.{blockBytes, kindBytes, lineBytes, idBytes, trailerBytes, mostBytes, form, trailer, kindsStart, linesStart, unplacedStart, trailerStart, placed, whole, rightShape, countsOf}
+use Rattle.read_file.specs.Reading.{f64At, threeAt, containerFrom, kindFrom, lineFrom, kindPlace, blankKind, blankLine, kindsOf, linesOf, idsOf, sheetOf, refusalOf}
+use Rattle.write_file.specs.Writing.{floatOut, threeOut, containerOut, kindOut, lineOut, trailerOut, linesFrom, unplacedFrom, trailerFrom, fileOf}
 use Rattle.load_file.specs.Parts.{Bytes, part-at, part-inside, u16-there, u32-there, u64-there}
 use Rattle.load_file.specs.Sections.{table-same}
-use Rattle.load_file.specs.Shaped.{Placed, Shaped}
-use Rattle.load_file.specs.Stores.{file-length-is}
+use Rattle.read_file.specs.Shaped.{Placed, Shaped}
+use Rattle.write_file.specs.Stores.{file-length-is}
 use Rattle.load_file.specs.Layout.{file-bytes, block-there, kind-there, line-there, id-there, trailer-there}
 use Rattle.load_file.specs.Typed.{Held, TypedVector, TypedContainer, TypedKind, TypedLine, Typed}
 use Rattle.load_file.specs.Tidy.{tidy, Blank, tidy-blank, tidy-refusal}

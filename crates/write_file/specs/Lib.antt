@@ -1,0 +1,3 @@
+-- How a sheet is written, and bytes stored part by part.
+pub mod Writing
+pub mod Stores
