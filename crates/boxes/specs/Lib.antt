@@ -1,3 +1,4 @@
 -- The boxes of an order in listing order.
 pub mod Turns
 pub mod Listing
+pub mod Orders

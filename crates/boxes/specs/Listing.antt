@@ -38,7 +38,8 @@ unfoldable pub listed : (ℕ → Instance) → ℕ → List Instance
 listed box zero = noBoxes
 listed box (suc t) = set (listed box t) t (box t)
 
--- the first n boxes of an order
+-- the first n boxes of an order, 256 at most. `turn-right` and `turn-at` say that they are its boxes where each kind has a box and n is at
+-- most their number; else the rule of Turns.antt goes on all the same, as if each kind had its instance 0 and there were a next kind.
 unfoldable pub listingOf : List Kind → ℕ → List Instance
 listingOf kinds n = listed (turnOf kinds) (atMostAll n)
 

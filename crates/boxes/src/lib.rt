@@ -70,7 +70,11 @@ fn no_boxes() -> [Instance; domain::MOST_BOXES]
     [none; domain::MOST_BOXES]
 }
 
-// The first n boxes of an order.
+// The first n boxes of an order, 256 at most, and (0, 0) in the cells past them. The first is instance 0 of kind 0, and behind
+// instance i of kind k comes instance i + 1 of it where the kind has so many, else instance 0 of kind k + 1. For an accepted
+// order and an n up to its total these are its boxes, each once (`turn-right`, `turn-at`). For other input the rule is the
+// same: a kind of quantity 0 gets its instance 0, and past the order's last kind each kind does, with the quantity that its
+// cell has, or with none past the store. Whoever offers the boxes of a listing tests the order first.
 pub fn listing(kinds: [Kind; domain::MOST_KINDS], n: usize) -> [Instance; domain::MOST_BOXES]
     ensures { λ r. ⌜ r ≡ listingOf kinds n ⌝ }
 {

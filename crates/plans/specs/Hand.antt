@@ -1,6 +1,6 @@
 -- A plan handed out into lent words, six to a line: id, instance, orientation, and the bits of x, y and z.
 use mathlib.Core.Path.{_≡_, refl}
-use mathlib.Core.Bool.{Bool, true, false, cond}
+use mathlib.Core.Bool.{Bool, true, false, cond, _||_}
 use mathlib.Core.List.{List, [], _∷_}
 use Prim.Native.Nat.{ℕ, suc, _+_, _*_, _/_, _≤_}
 use native.Mathlib.Omega.{arith}
@@ -12,11 +12,12 @@ use lib.Ieee.{binary64, toBits}
 use Rattle.floats.specs.Ops.{none, x, y, z}
 use Rattle.domain.specs.Bounds.{mostKinds, mostLines}
 use Rattle.domain.specs.Refusals.{when, orElse}
-use Rattle.domain.specs.Laws.{or-else-first, or-else-second, when-none}
+use Rattle.domain.specs.Laws.{or-left, or-else-first, or-else-second, when-none}
 use Rattle.sheet.specs.declared.Line.{Line}
 use Rattle.sheet.specs.Sheets.{noLine}
 use Rattle.plans.specs.declared.Plan.{Plan}
 use Rattle.plans.specs.declared.Packed.{Packed}
+use Rattle.plans.specs.Plans.{planRefusal}
 use Rattle.plans.specs.Rows.{wrote}
 
 -- the words of one line
@@ -28,9 +29,12 @@ wordsOf l =
 unfoldable pub lineWords : List Line → ℕ → List ℕ
 lineWords lines i = wordsOf (getD lines i noLine)
 
--- the plan's own refusal, then 2 for more lines than there can be, then 6: "the lent slots are fewer than the results"
-unfoldable pub handRefusal : ℕ → ℕ → ℕ → ℕ
-handRefusal refused placed room = orElse refused (orElse (when (ltb mostLines placed) 2) (when (ltb (room / 6) placed) 6))
+-- what the plan is refused by, then 01's 6: "the lent slots are fewer than the results"
+unfoldable pub handRefusal : ℕ → ℕ → ℕ → ℕ → ℕ
+handRefusal refused placed unplaced room = orElse (planRefusal refused placed unplaced) (when (ltb (room / 6) placed) 6)
+
+abbrev refusalFor : Plan → ℕ → ℕ
+refusalFor p room = handRefusal (p .refused) (p .placed) (p .unplaced) room
 
 -- 01: "A refusal returns its number (6 also its count)"
 abbrev pub refusedPack : ℕ → ℕ → Packed
@@ -48,7 +52,7 @@ refusedPack r placed =
 -- the answer, with room for so many words
 unfoldable pub handedOf : Plan → ℕ → Packed
 handedOf p room =
-    cond (eqb (handRefusal (p .refused) (p .placed) room) 0)
+    cond (eqb (refusalFor p room) 0)
     (record {
       refused = 0;
       needed = p .placed;
@@ -58,11 +62,11 @@ handedOf p room =
       unplaced = p .unplaced;
       ids = p .ids;
     })
-    (refusedPack (handRefusal (p .refused) (p .placed) room) (p .placed))
+    (refusedPack (refusalFor p room) (p .placed))
 
 -- the words afterwards
 unfoldable pub slotsOf : Plan → List ℕ → List ℕ
-slotsOf p o = cond (eqb (handRefusal (p .refused) (p .placed) (length o)) 0) (wrote (lineWords (p .lines)) 6 (p .placed) o) o
+slotsOf p o = cond (eqb (refusalFor p (length o)) 0) (wrote (lineWords (p .lines)) 6 (p .placed) o) o
 
 -- ---- laws
 
@@ -71,12 +75,13 @@ pub record Room (placed room : ℕ) : Type 0 where
   pub lines : placed ≤ mostLines
   pub words : placed * 6 ≤ room
 
-pub room-of : (refused placed room : ℕ) → handRefusal refused placed room ≡ 0 → Room placed room
-unfolding handRefusal
-room-of refused placed room h =
-    let r = or-else-second refused _ h in
-    let a = ltb-false mostLines placed (when-none (ltb mostLines placed) 1 (or-else-first (when (ltb mostLines placed) 2) _ r)) in
-    let b = ltb-false (room / 6) placed (when-none (ltb (room / 6) placed) 5 (or-else-second (when (ltb mostLines placed) 2) _ r)) in
+pub room-of : (refused placed unplaced room : ℕ) → handRefusal refused placed unplaced room ≡ 0 → Room placed room
+unfolding handRefusal planRefusal
+room-of refused placed unplaced room h =
+    let over = ltb mostLines placed || ltb mostKinds unplaced in
+    let r = or-else-second refused _ (or-else-first (orElse refused (when over 2)) _ h) in
+    let a = ltb-false mostLines placed (or-left (ltb mostLines placed) _ (when-none over 1 r)) in
+    let b = ltb-false (room / 6) placed (when-none (ltb (room / 6) placed) 5 (or-else-second (orElse refused (when over 2)) _ h)) in
     record { lines = a; words = omega arith }
 
 pub six : (lines : List Line) (i : ℕ) → length (lineWords lines i) ≡ 6

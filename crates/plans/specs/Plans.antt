@@ -1,22 +1,20 @@
 -- A plan from the lines that were placed.
-use mathlib.Core.Bool.{Bool, true, false, cond}
-use mathlib.Core.List.{List, [], _∷_}
+use mathlib.Core.Bool.{Bool, true, false, cond, _||_}
+use mathlib.Core.List.{List}
 use Prim.Native.Nat.{ℕ}
-use lib.Dec.{eqb}
+use lib.Dec.{eqb, ltb}
 use lib.ListN.{replicate}
 use lib.Ieee.{Float}
 use Rattle.floats.specs.Ops.{none}
 use Rattle.domain.specs.Bounds.{mostKinds, mostLines}
+use Rattle.domain.specs.Refusals.{when, orElse}
 use Rattle.measures.specs.declared.Kind.{Kind}
 use Rattle.sheet.specs.declared.Line.{Line}
+pub use Rattle.sheet.specs.Sheets.{blankLine}
 use Rattle.unplaced.specs.declared.Left.{Left}
 use Rattle.unplaced.specs.Short.{namesOf}
 use Rattle.unplaced.specs.Left.{leftOf}
 use Rattle.plans.specs.declared.Plan.{Plan}
-
--- what a line that holds no box has in it
-abbrev pub blankLine : Line
-blankLine = record { id = 0; instance = 0; orientation = 0; bin = 0; at = none ∷ none ∷ none ∷ [] }
 
 -- nothing but the refusal
 unfoldable pub refusedPlan : ℕ → Plan
@@ -48,3 +46,7 @@ plannedOf kinds m lines n considered utilization =
       ids = leftBy kinds m lines n .ids;
     })
     (refusedPlan (leftBy kinds m lines n .refused))
+
+-- what a call that takes a plan refuses: the plan's own refusal, then 2 for more lines or ids than a plan's stores have
+unfoldable pub planRefusal : ℕ → ℕ → ℕ → ℕ
+planRefusal refused placed unplaced = orElse refused (when (ltb mostLines placed || ltb mostKinds unplaced) 2)

@@ -7,11 +7,7 @@ use native.Mathlib.Nat.{suc-mul, zero-mul, mul-le-mul-right, eq-or-lt-of-le, le-
 use native.Mathlib.Omega.{arith}
 use lib.ListN.{length, getD, take, drop, length-append, length-drop, List·getD-append}
 use lib.Seq.{sets, sets-eq, take-at, drop-append-add, drop-drop, getD-append-add}
-
--- rows 0, 1, .. below n, one after the other
-unfoldable pub allBelow : (ℕ → List ℕ) → ℕ → List ℕ
-allBelow row zero = []
-allBelow row (suc n) = allBelow row n ++ row n
+unfoldable pub use Rattle.domain.specs.Refusals.{allBelow}
 
 -- 01: "lent cells past its results hold their old values". A row has w words.
 unfoldable pub wrote : (ℕ → List ℕ) → ℕ → ℕ → List ℕ → List ℕ

@@ -2,11 +2,11 @@
 // unplaced list. It is made from lines by value, and handed out into words that the caller lends.
 ghost use mathlib.Core.Path.{_≡_};
 ghost use Prim.Native.Nat.{_+_, _*_, _≤_};
-ghost use lib.ListN.{length};
+ghost use lib.ListN.{length, replicate};
 ghost use lib.Seq.{sets};
 ghost use Rattle.domain.specs.Bounds.{mostLines};
-ghost use Rattle.plans.specs.Plans.{refusedPlan, plannedOf};
-ghost use Rattle.plans.specs.Planned.{widened, plannedSheet};
+ghost use Rattle.plans.specs.Plans.{blankLine, refusedPlan, plannedOf, planRefusal};
+ghost use Rattle.plans.specs.Planned.{widened, plannedSheet, sheetFrom};
 ghost use Rattle.plans.specs.Boxes.{smaller};
 ghost use Rattle.plans.specs.Rows.{wrote};
 ghost use Rattle.plans.specs.Hand.{wordsOf, lineWords, handRefusal, refusedPack, handedOf, slotsOf};
@@ -37,6 +37,12 @@ pub struct Packed {
     pub ids: [u32; domain::MOST_KINDS],
 }
 
+// A planned sheet. A refused plan gives its refusal and a sheet with nothing in it, which no call accepts.
+pub struct PlanSheet {
+    pub refused: u32,
+    pub sheet: Sheet,
+}
+
 // Words a line takes: id, instance, orientation, and the bits of x, y and z.
 pub const WORDS: usize = 6;
 
@@ -50,9 +56,8 @@ pub fn smaller(a: u64, b: u64) -> u64
     b
 }
 
-// A plan that is refused.
-pub fn refused_plan(refused: u32) -> Plan
-    ensures { λ r. ⌜ r ≡ refusedPlan refused ⌝ }
+fn no_lines() -> [Line; domain::MOST_LINES]
+    ensures { λ r. ⌜ r ≡ replicate mostLines blankLine ⌝ }
 {
     let none = Line {
         id: 0,
@@ -61,7 +66,14 @@ pub fn refused_plan(refused: u32) -> Plan
         bin: 0,
         at: [0.0, 0.0, 0.0],
     };
-    let lines = [none; domain::MOST_LINES];
+    [none; domain::MOST_LINES]
+}
+
+// A plan that is refused.
+pub fn refused_plan(refused: u32) -> Plan
+    ensures { λ r. ⌜ r ≡ refusedPlan refused ⌝ }
+{
+    let lines = no_lines();
     let ids = [0u32; domain::MOST_KINDS];
     Plan {
         refused,
@@ -135,13 +147,20 @@ fn put_lines(out: &mut [u64], lines: [Line; domain::MOST_LINES], n: usize)
     }
 }
 
-// The plan's own refusal, 2 for more lines than there can be, 6 where the words are fewer than the lines need.
-fn hand_refusal(refused: u32, placed: usize, room: usize) -> u32
-    ensures { λ r. ⌜ r ≡ handRefusal refused placed room ⌝ }
+// A plan's own refusal, then 2 for more lines or ids than its stores have.
+fn plan_refusal(refused: u32, placed: usize, unplaced: usize) -> u32
+    ensures { λ r. ⌜ r ≡ planRefusal refused placed unplaced ⌝ }
 {
-    let over = domain::given(placed > domain::MOST_LINES, 2);
+    let over = (placed > domain::MOST_LINES) | (unplaced > domain::MOST_KINDS);
+    domain::or_else(refused, domain::given(over, 2))
+}
+
+// The same, then 6 where the words are fewer than the lines need.
+fn hand_refusal(refused: u32, placed: usize, unplaced: usize, room: usize) -> u32
+    ensures { λ r. ⌜ r ≡ handRefusal refused placed unplaced room ⌝ }
+{
     let short = domain::given(room / WORDS < placed, 6);
-    domain::or_else(refused, domain::or_else(over, short))
+    domain::or_else(plan_refusal(refused, placed, unplaced), short)
 }
 
 // A refusal, for 6 with the number of lines that need room.
@@ -169,7 +188,7 @@ fn refused_pack(refused: u32, placed: usize) -> Packed
 pub fn hand_out(plan: Plan, slots: &mut [u64]) -> Packed
     ensures { λ r. ⌜ (r ≡ handedOf plan (length (now (slots .entry)))) × (now (slots .exit) ≡ slotsOf plan (now (slots .entry))) ⌝ }
 {
-    let refused = hand_refusal(plan.refused, plan.placed, slots.len());
+    let refused = hand_refusal(plan.refused, plan.placed, plan.unplaced, slots.len());
     if refused != 0 {
         return refused_pack(refused, plan.placed);
     }
@@ -200,8 +219,8 @@ fn widened(ids: [u32; domain::MOST_KINDS]) -> [u32; domain::MOST_UNPLACED]
     all
 }
 
-// The planned sheet: the order, its lines and unplaced ids replaced by the plan's.
-pub fn planned_sheet(order: Sheet, plan: Plan) -> Sheet
+// The order, its lines and unplaced ids replaced by the plan's.
+fn with_plan(order: Sheet, plan: Plan) -> Sheet
     ensures { λ r. ⌜ r ≡ plannedSheet order plan ⌝ }
 {
     let ordered = order.many;
@@ -221,5 +240,24 @@ pub fn planned_sheet(order: Sheet, plan: Plan) -> Sheet
         kinds,
         lines,
         unplaced,
+    }
+}
+
+// The planned sheet, or the plan's refusal. The order and the lines are tested by whoever takes the sheet.
+pub fn planned_sheet(order: Sheet, plan: Plan) -> PlanSheet
+    ensures { λ r. ⌜ r ≡ sheetFrom order plan ⌝ }
+{
+    let refused = plan_refusal(plan.refused, plan.placed, plan.unplaced);
+    if refused != 0 {
+        let none = sheet::empty_sheet();
+        return PlanSheet {
+            refused,
+            sheet: none,
+        };
+    }
+    let s = with_plan(order, plan);
+    PlanSheet {
+        refused: 0,
+        sheet: s,
     }
 }

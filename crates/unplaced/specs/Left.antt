@@ -1,5 +1,5 @@
 -- The list itself: the ids of the short kinds, each once, in kind order; and the refusals of the calls that give it.
-use mathlib.Core.Path.{_≡_}
+use mathlib.Core.Path.{_≡_, refl}
 use mathlib.Core.Bool.{Bool, true, false, cond, _||_}
 use mathlib.Core.List.{List, []}
 use Prim.Native.Nat.{ℕ, zero, suc, _+_, _≤_}
@@ -9,12 +9,12 @@ use borrow.Author.Tests.{ltb-false}
 use lib.Dec.{eqb, ltb}
 use lib.ListN.{getD, set, replicate}
 use Rattle.domain.specs.Bounds.{mostKinds, mostLines}
-use Rattle.domain.specs.Refusals.{when, orElse}
+use Rattle.domain.specs.Refusals.{when, orElse, firstBelow}
 use Rattle.domain.specs.Laws.{or-left, or-right}
 use Rattle.measures.specs.declared.Kind.{Kind}
 use Rattle.sheet.specs.declared.Line.{Line}
 use Rattle.sheet.specs.declared.Sheet.{Sheet}
-use Rattle.sheet.specs.Sheets.{noKind, sheetRefusal}
+use Rattle.sheet.specs.Sheets.{noKind, lineFaultIn, sheetRefusal}
 use Rattle.unplaced.specs.declared.Left.{Left}
 use Rattle.unplaced.specs.declared.Shorts.{Shorts}
 use Rattle.unplaced.specs.Short.{isShort, namesOf}
@@ -55,14 +55,37 @@ shortsOf kinds m ids instances n =
 unfoldable pub leftOf : List Kind → ℕ → List ℕ → List ℕ → ℕ → Left
 leftOf kinds m ids instances n = cond (overBound m n) (noLeft 2) (leftAfter kinds (flagsOf kinds ids instances n m) m)
 
--- the same for an order and a list of lines, with the order tested
-unfoldable pub unplacedRefusal : Sheet → ℕ → ℕ
-unplacedRefusal order n = orElse (when (ltb mostLines n) 2) (sheetRefusal order)
+-- the same for an order and a list of lines: 2 for their count, then what the order gets, then for the lines handed in 01's "3 line by line"
+unfoldable pub unplacedRefusal : Sheet → List Line → ℕ → ℕ
+unplacedRefusal order lines n = orElse (when (ltb mostLines n) 2) (orElse (sheetRefusal order) (firstBelow (lineFaultIn lines) n))
 
 unfoldable pub unplacedOf : Sheet → List Line → ℕ → Left
 unplacedOf order lines n =
-    cond (eqb (unplacedRefusal order n) 0) (leftOf (order .kinds) (order .many .kinds) (namesOf lines mostLines .ids) (namesOf lines mostLines .instances) n)
-    (noLeft (unplacedRefusal order n))
+    cond (eqb (unplacedRefusal order lines n) 0)
+    (leftOf (order .kinds) (order .many .kinds) (namesOf lines mostLines .ids) (namesOf lines mostLines .instances) n)
+    (noLeft (unplacedRefusal order lines n))
+
+-- the order with n lines in the place of its own
+abbrev pub withLines : Sheet → List Line → ℕ → Sheet
+withLines order lines n =
+    record {
+      many = record { kinds = order .many .kinds; lines = n; unplaced = order .many .unplaced };
+      container = order .container;
+      kinds = order .kinds;
+      lines = lines;
+      unplaced = order .unplaced;
+    }
+
+-- ---- a list that is made is not refused
+push-fair : (b : Bool) (id : ℕ) (l : Left) → l .refused ≡ 0 → pushIf b id l .refused ≡ 0
+unfolding pushIf
+push-fair true id l h = h
+push-fair false id l h = h
+
+pub left-fair : (kinds : List Kind) (flags : List Bool) (m : ℕ) → leftAfter kinds flags m .refused ≡ 0
+unfolding leftAfter
+left-fair kinds flags zero = refl
+left-fair kinds flags (suc m) = push-fair (getD flags m false) (getD kinds m noKind .id) (leftAfter kinds flags m) (left-fair kinds flags m)
 
 -- ---- counts that are not over
 pub record Within (m n : ℕ) : Type 0 where

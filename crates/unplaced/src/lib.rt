@@ -6,9 +6,10 @@ ghost use Prim.Native.Nat.{_≤_, _<_};
 ghost use lib.ListN.{getD, set};
 ghost use Rattle.domain.specs.Bounds.{mostKinds, mostLines};
 ghost use Rattle.unplaced.specs.Short.{distinctPlaced, isShort, namesOf};
-ghost use Rattle.unplaced.specs.Left.{flagsOf, pushIf, leftAfter, noLeft, overBound, shortsOf, leftOf, unplacedRefusal, unplacedOf};
+ghost use Rattle.unplaced.specs.Left.{flagsOf, pushIf, leftAfter, noLeft, overBound, shortsOf, leftOf, withLines, unplacedOf};
 ghost use Rattle.unplaced.specs.Marks.{markOf, freshOf, noMarks};
 use measures::Kind;
+use sheet::Counts;
 use sheet::Line;
 use sheet::Sheet;
 
@@ -172,7 +173,9 @@ fn listed(kinds: [Kind; domain::MOST_KINDS], m: usize, flags: [bool; domain::MOS
     left
 }
 
-// Which of m kinds are short, by n lines given as ids and instances. Refused by 2 for a count over its bound.
+// Which of m kinds are short, by n lines given as ids and instances. Refused by 2 for a count over its bound. It takes every
+// kind and every line: a quantity, an id and an instance are all that counts of them, so nothing else is tested. For crates
+// that hold a tested sheet.
 pub fn short_kinds(
     kinds: [Kind; domain::MOST_KINDS],
     m: usize,
@@ -190,7 +193,7 @@ pub fn short_kinds(
     Shorts { refused: 0, flags }
 }
 
-// The ids of the short ones of m kinds. Refused by 2 for a count over its bound.
+// The ids of the short ones of m kinds, under the same terms.
 pub fn left_over(
     kinds: [Kind; domain::MOST_KINDS],
     m: usize,
@@ -225,12 +228,37 @@ pub fn names_of(lines: [Line; domain::MOST_LINES]) -> Names
     names
 }
 
-// The unplaced list of an order by n lines. The order's own lines and unplaced ids are tested and left aside.
+// The order with n lines in the place of its own.
+fn with_lines(order: Sheet, lines: [Line; domain::MOST_LINES], n: usize) -> Sheet
+    ensures { λ r. ⌜ r ≡ withLines order lines n ⌝ }
+{
+    let own = order.many;
+    let many = Counts {
+        kinds: own.kinds,
+        lines: n,
+        unplaced: own.unplaced,
+    };
+    let container = order.container;
+    let kinds = order.kinds;
+    let unplaced = order.unplaced;
+    Sheet {
+        many,
+        container,
+        kinds,
+        lines,
+        unplaced,
+    }
+}
+
+// The unplaced list of an order by n lines. The order's own lines and unplaced ids are tested and left aside; then the lines
+// handed in are tested, which is what is new in the order with them in the place of its own.
 pub fn unplaced_list(order: Sheet, lines: [Line; domain::MOST_LINES], n: usize) -> Left
     ensures { λ r. ⌜ r ≡ unplacedOf order lines n ⌝ }
 {
     let over = domain::given(n > domain::MOST_LINES, 2);
-    let refused = domain::or_else(over, sheet::sheet_refusal(order));
+    let own = sheet::sheet_refusal(order);
+    let anew = sheet::sheet_refusal(with_lines(order, lines, n));
+    let refused = domain::or_else(over, domain::or_else(own, anew));
     if refused != 0 {
         return no_left(refused);
     }

@@ -1,12 +1,17 @@
--- `plans::planned_sheet` meets its contract: the store of ids, and the parts as they are.
+-- `plans::planned_sheet` meets its contract, by the plan's refusal.
 use borrow.Author.Needs.{needs}
-use Rattle.plans.specs.Planned.{plannedSheet}
+use borrow.Author.Tests.{eq-eqb, ne-eqb}
+use Rattle.plans.specs.Planned.{sheetFrom}
 use Rattle.plans.proofs.planned_sheet.Statement.{statement}
 use Rattle.plans.proofs.planned_sheet.Tie as tie
 
 returns : tie.Need-returns
-unfolding plannedSheet
-returns c = rw (c .widened .ensures)
+unfolding sheetFrom
+returns c = rw (c .empty-sheet .ensures, ← (c .before .before .plan-refusal .ensures), ne-eqb _ _ (c .before .if1 .taken))
+
+returns-2 : tie.Need-returns-2
+unfolding sheetFrom
+returns-2 c = rw (c .with-plan .ensures, ← (c .before .before .plan-refusal .ensures), eq-eqb _ _ (c .before .if1 .left))
 
 pub planned-sheet-spec : {M : Type 1} → statement M
-planned-sheet-spec = tie.close (tie.spec (λ c κs. search needs) returns)
+planned-sheet-spec = tie.close (tie.spec (λ c κs. search needs) (λ c κs. search needs) returns (λ c κs. search needs) returns-2)

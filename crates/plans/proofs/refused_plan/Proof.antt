@@ -1,12 +1,12 @@
 -- `plans::refused_plan` meets its contract, by computation.
-use mathlib.Core.Path.{refl}
+use borrow.Author.Needs.{needs}
 use Rattle.plans.specs.Plans.{refusedPlan}
 use Rattle.plans.proofs.refused_plan.Statement.{statement}
 use Rattle.plans.proofs.refused_plan.Tie as tie
 
 returns : tie.Need-returns
 unfolding refusedPlan
-returns c = refl
+returns c = rw (c .no-lines .ensures)
 
 pub refused-plan-spec : {M : Type 1} → statement M
-refused-plan-spec = tie.close (tie.spec returns)
+refused-plan-spec = tie.close (tie.spec (λ c κs. search needs) returns)

@@ -1,14 +1,19 @@
 -- `unplaced::unplaced_list` meets its contract, by the refusal and what its callees ensure.
-use mathlib.Core.Path.{_≡_}
+use mathlib.Core.Path.{_≡_, _∙_}
 use borrow.Author.Needs.{needs}
 use borrow.Author.Tests.{eq-eqb, ne-eqb}
 use Rattle.unplaced.specs.Left.{unplacedRefusal, unplacedOf}
+use Rattle.unplaced.specs.Anew.{unplaced-refusal}
 use Rattle.unplaced.proofs.unplaced_list.Statement.{statement}
 use Rattle.unplaced.proofs.unplaced_list.Tie as tie
 
-refusal : (c : tie.After-or-else) → c .or-else .result ≡ unplacedRefusal (c .before .before .before .args .order) (c .before .before .before .args .n)
-unfolding unplacedRefusal
-refusal c = rw (c .or-else .ensures, c .before .sheet-refusal .ensures, c .before .before .given .ensures)
+refusal : (c : tie.After-or-else2)
+    → c .or-else2 .result
+    ≡ unplacedRefusal (c .before .before .before .before .before .before .args .order) (c .before .before .before .before .before .before .args .lines) (c .before .before .before .before .before .before .args .n)
+refusal c =
+    let w = c .before .before .before in
+    rw (c .or-else2 .ensures, c .before .or-else .ensures, c .before .before .sheet-refusal2 .ensures, w .with-lines .ensures, w .before .sheet-refusal .ensures, w .before .before .given .ensures)
+    (unplaced-refusal _ _ _)
 
 returns : tie.Need-returns
 unfolding unplacedOf
@@ -19,4 +24,4 @@ unfolding unplacedOf
 returns-2 c = rw (c .left-over .ensures, c .before .before .before .before .before .before .before .names-of .ensures, ← (refusal (c .before .before .before .before .before .before .before .before .before)), eq-eqb _ _ (c .before .before .before .before .before .before .before .before .if1 .left))
 
 pub unplaced-list-spec : {M : Type 1} → statement M
-unplaced-list-spec = tie.close (tie.spec (λ c κs. search needs) (λ c κs. search needs) (λ c κs. search needs) (λ c κs. search needs) returns (λ c κs. search needs) (λ c κs. search needs) returns-2)
+unplaced-list-spec = tie.close (tie.spec (λ c κs. search needs) (λ c κs. search needs) (λ c κs. search needs) (λ c κs. search needs) (λ c κs. search needs) (λ c κs. search needs) (λ c κs. search needs) returns (λ c κs. search needs) (λ c κs. search needs) returns-2)
