@@ -2,11 +2,10 @@
 use mathlib.Core.Bool.{Bool, not, cond, _||_}
 use mathlib.Core.List.{List}
 use Prim.Native.Nat.{ℕ, zero, suc, _+_, _*_}
-use lib.Dec.{ltb, eqb}
+use lib.Dec.{eqb}
 use lib.ListN.{getD}
 use lib.Ieee.{Float, nan, le}
 use Rattle.floats.specs.Ops.{x, y, z, none, _⊕_, _⊖_}
-use Rattle.domain.specs.Bounds.{mostBoxes}
 use Rattle.measures.specs.Volume.{volume}
 use Rattle.point_set.specs.declared.Label.{Label}
 use Rattle.point_set.specs.declared.PlacedBox.{PlacedBox}
@@ -22,13 +21,9 @@ noLabel = record { id = 0; instance = 0; mass = nan; massed = 0 }
 abbrev pub labelAt : ExtremePointSet → ℕ → Label
 labelAt s i = getD (s .labels) i noLabel
 
--- a box of no size, the answer at a number past the boxes placed
+-- a box of no size, the answer where none is found
 abbrev pub noBox : PlacedBox
 noBox = record { id = 0; instance = 0; position = nowhere; dimensions = nowhere; mass = none; massed = 0 }
-
--- how many boxes the stores have: no more than 256, whatever the count says
-unfoldable pub heldIn : ℕ → ℕ
-heldIn held = cond (ltb mostBoxes held) mostBoxes held
 
 -- placed box i
 unfoldable pub boxAt : ExtremePointSet → ℕ → PlacedBox
@@ -41,9 +36,6 @@ boxAt s i =
       mass = labelAt s i .mass;
       massed = labelAt s i .massed;
     }
-
-unfoldable pub placedAt : ExtremePointSet → ℕ → PlacedBox
-placedAt s i = cond (ltb i (heldIn (s .held))) (boxAt s i) noBox
 
 -- `max_corner`
 abbrev pub maxCorner : PlacedBox → List Float
@@ -64,7 +56,7 @@ volumeBelow boxes zero = none
 volumeBelow boxes (suc i) = volumeBelow boxes i ⊕ volume (three boxes (2 * i + 1))
 
 abbrev pub totalVolume : ExtremePointSet → Float
-totalVolume s = volumeBelow (s .boxes) (heldIn (s .held))
+totalVolume s = volumeBelow (s .boxes) (s .held)
 
 -- a box without a mass adds nothing
 unfoldable pub massWith : Float → Label → Float
@@ -75,4 +67,4 @@ massBelow labels zero = none
 massBelow labels (suc i) = massWith (massBelow labels i) (getD labels i noLabel)
 
 abbrev pub totalMass : ExtremePointSet → Float
-totalMass s = massBelow (s .labels) (heldIn (s .held))
+totalMass s = massBelow (s .labels) (s .held)

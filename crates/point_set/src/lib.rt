@@ -2,18 +2,25 @@
 // read of any.
 ghost use mathlib.Core.Path.{_≡_};
 ghost use mathlib.Core.Bool.{cond};
-ghost use lib.Dec.{eqb};
-ghost use Rattle.point_set.specs.Boxes.{noBox, placedAt, maxCorner, overlapping, totalVolume, totalMass};
+ghost use Rattle.point_set.specs.Boxes.{maxCorner, overlapping};
 ghost use Rattle.point_set.specs.Fresh.{freshOf};
 
+mod reads; // reads.rt: the calls that only read a state
 mod totals; // totals.rt: the totals over the placed boxes
 mod triples; // triples.rt: flat stores of triples
 
-use crate::totals::mass_below;
-use crate::totals::volume_below;
-use crate::triples::triple_at;
 use measures::Container;
-pub use totals::held_in;
+pub use reads::Amount;
+pub use reads::Count;
+pub use reads::Flag;
+pub use reads::Found;
+pub use reads::is_empty;
+pub use reads::len;
+pub use reads::over_counts;
+pub use reads::placed_box;
+pub use reads::placed_count;
+pub use reads::total_mass;
+pub use reads::total_volume;
 pub use totals::mass_with;
 pub use triples::sum3;
 
@@ -99,62 +106,6 @@ pub fn new(container: Container) -> Fresh
     }
 }
 
-// The number of stored points.
-pub fn len(set: ExtremePointSet) -> usize
-    ensures { λ r. ⌜ r ≡ set .live ⌝ }
-{
-    let stored = set.live;
-    stored
-}
-
-// Whether no point is stored.
-pub fn is_empty(set: ExtremePointSet) -> bool
-    ensures { λ r. ⌜ r ≡ eqb (set .live) 0 ⌝ }
-{
-    set.live == 0
-}
-
-// The number of placed boxes.
-pub fn placed_count(set: ExtremePointSet) -> usize
-    ensures { λ r. ⌜ r ≡ set .held ⌝ }
-{
-    set.held
-}
-
-fn no_box() -> PlacedBox
-    ensures { λ r. ⌜ r ≡ noBox ⌝ }
-{
-    let none = [0.0, 0.0, 0.0];
-    PlacedBox {
-        id: 0,
-        instance: 0,
-        position: none,
-        dimensions: none,
-        mass: 0.0,
-        massed: 0,
-    }
-}
-
-// Placed box i, in the order placed; past them a box of no size.
-pub fn placed_box(set: ExtremePointSet, i: usize) -> PlacedBox
-    ensures { λ r. ⌜ r ≡ placedAt set i ⌝ }
-{
-    if i >= held_in(set.held) {
-        return no_box();
-    }
-    let label = set.labels[i];
-    let position = triple_at(&set.boxes, 2 * i);
-    let dimensions = triple_at(&set.boxes, 2 * i + 1);
-    PlacedBox {
-        id: label.id,
-        instance: label.instance,
-        position,
-        dimensions,
-        mass: label.mass,
-        massed: label.massed,
-    }
-}
-
 // The far corner of a placed box.
 pub fn max_corner(b: PlacedBox) -> [f64; 3]
     ensures { λ r. ⌜ r ≡ maxCorner b ⌝ }
@@ -175,19 +126,4 @@ pub fn overlaps(a: PlacedBox, b: PlacedBox) -> bool
     !(((p[0] >= qe[0] - E) | (q[0] >= pe[0] - E))
         | (((p[1] >= qe[1] - E) | (q[1] >= pe[1] - E))
             | ((p[2] >= qe[2] - E) | (q[2] >= pe[2] - E))))
-}
-
-// The volume of the placed boxes.
-pub fn total_volume(set: ExtremePointSet) -> f64
-    ensures { λ r. ⌜ r ≡ totalVolume set ⌝ }
-{
-    volume_below(&set.boxes, held_in(set.held))
-}
-
-// The mass of the placed boxes that have one.
-pub fn total_mass(set: ExtremePointSet) -> f64
-    ensures { λ r. ⌜ r ≡ totalMass set ⌝ }
-{
-    let labels = set.labels;
-    mass_below(labels, held_in(set.held))
 }

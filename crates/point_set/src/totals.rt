@@ -1,21 +1,11 @@
 // The totals over the placed boxes, from +0 in the order placed.
 ghost use mathlib.Core.Path.{_≡_};
-ghost use Prim.Native.Nat.{_≤_, _<_};
+ghost use Prim.Native.Nat.{_≤_};
 ghost use Rattle.domain.specs.Bounds.{mostBoxes};
-ghost use Rattle.point_set.specs.Boxes.{heldIn, volumeBelow, massWith, massBelow};
+ghost use Rattle.point_set.specs.Boxes.{volumeBelow, massWith, massBelow};
 use crate::CELLS;
 use crate::Label;
 use crate::triples::triple_at;
-
-// How many boxes the stores have: no more than they can hold, whatever the count says.
-pub fn held_in(held: usize) -> usize
-    ensures { λ r. ⌜ (r ≡ heldIn held) × (r ≤ mostBoxes) ⌝ }
-{
-    if held > domain::MOST_BOXES {
-        return domain::MOST_BOXES;
-    }
-    held
-}
 
 pub(crate) fn volume_below(boxes: &[f64; CELLS], n: usize) -> f64
     requires { ⌜ n ≤ mostBoxes ⌝ }

@@ -43,6 +43,10 @@ pub cond-keeps : {A : Type 0} (P : A → Type 0) (b : Bool) {x y : A} → P x �
 cond-keeps P true p q = p
 cond-keeps P false p q = q
 
+pub cond-cases : {A : Type 0} (P : A → Type 0) (b : Bool) {x y : A} → (b ≡ true → P x) → (b ≡ false → P y) → P (cond b x y)
+cond-cases P true p q = p refl
+cond-cases P false p q = q refl
+
 -- the index stays within what it and the new point are within
 pub step-index : (passes : Bool) (v w : List Float) (i k : ℕ) (c : Choice) → i ≤ k → c .index ≤ k → stepBy passes v w i c .index ≤ k
 unfolding stepBy

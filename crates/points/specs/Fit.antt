@@ -45,7 +45,6 @@ apart a b at far =
     le (x a) (x at)
     || (le (x far) (x b) || (le (y a) (y at) || (le (y far) (y b) || (le (z a) (z at) || le (z far) (z b)))))
 
--- position and dimensions of placed box i
 -- a box with these corners is separated from placed box i
 unfoldable pub separated : ExtremePointSet → List Float → List Float → ℕ → Bool
 separated s at far i =

@@ -1,7 +1,7 @@
 -- The state after a box has been placed: its point is gone, up to three new ones are stored, and the box stands (`generate_new_eps`, `add_ep_if_valid`).
 use mathlib.Core.Bool.{Bool, true, false, not, cond, _&&_, _||_}
 use mathlib.Core.List.{List, [], _∷_}
-use Prim.Native.Nat.{ℕ, _+_, _-_, _*_, _≤_}
+use Prim.Native.Nat.{ℕ, _+_, _-_, _*_, _<_, _≤_}
 use native.Mathlib.Omega.{arith}
 use lib.ListN.{set}
 use lib.Ieee.{Float, lt, le}
@@ -92,10 +92,12 @@ grown n at s =
 -- ---- the state
 
 -- the points after a box of these lengths has gone to point k
-unfoldable pub stockOf : ExtremePointSet → ℕ → List Float → Stock
-stockOf s k size =
-    let at = pointAt s k in
-    grown (cornersOf (s .container) (s .boxes) (s .held) at size) at (dropped k (record { live = s .live; points = s .points }))
+unfoldable pub stockBy : Container → List Float → ℕ → ℕ → List Float → ℕ → List Float → Stock
+stockBy c boxes held live points k size =
+    let at = three points k in grown (cornersOf c boxes held at size) at (dropped k (record { live = live; points = points }))
+
+abbrev pub stockOf : ExtremePointSet → ℕ → List Float → Stock
+stockOf s k size = stockBy (s .container) (s .boxes) (s .held) (s .live) (s .points) k size
 
 -- a box with its position and its dimensions as box n
 unfoldable pub putBox : List Float → ℕ → List Float → List Float → List Float
@@ -123,3 +125,15 @@ pub count-with : (kept : Bool) (n : ℕ) → Between n (countWith kept n) (n + 1
 unfolding countWith
 count-with true n = record { low = omega arith; high = omega arith }
 count-with false n = record { low = omega arith; high = omega arith }
+
+-- one point goes and at most three come
+pub stock-few : (s : ExtremePointSet) (k : ℕ) (size : List Float) → k < s .live → stockOf s k size .live ≤ s .live + 2
+unfolding stockBy
+stock-few s k size l =
+    let new = cornersOf (s .container) (s .boxes) (s .held) (pointAt s k) size in
+    let n₁ = countWith (new .alongx) (s .live - 1) in
+    let n₂ = countWith (new .alongy) n₁ in
+    let b₁ : Between (s .live - 1) n₁ (s .live - 1 + 1) = count-with (new .alongx) (s .live - 1) in
+    let b₂ : Between n₁ n₂ (n₁ + 1) = count-with (new .alongy) n₁ in
+    let b₃ : Between n₂ (countWith (new .alongz) n₂) (n₂ + 1) = count-with (new .alongz) n₂ in
+    omega arith

@@ -1,41 +1,30 @@
 -- The point and the orientation of the next box, found without a place call for each orientation, and that it is what the place calls find.
 use mathlib.Core.Path.{_≡_, refl, sym, _∙_, ap}
-use mathlib.Core.Bool.{Bool, true, false, not, cond, _&&_, _||_}
+use mathlib.Core.Bool.{Bool, true, false, cond}
 use mathlib.Core.Logic.{⊎-elim}
 use mathlib.Core.List.{List}
-use Prim.Native.Nat.{ℕ, zero, suc, _+_, _-_, _*_, _≤_, _<_}
+use Prim.Native.Nat.{ℕ, zero, suc, _+_, _≤_, _<_}
 use native.Mathlib.Nat.{eq-or-lt-of-le, le-of-suc-le-suc, not-suc-le-zero}
 use native.Mathlib.Numerals.{add-one}
 use native.Mathlib.Omega.{arith}
-use borrow.Author.Tests.{eq-eqb, ne-eqb}
-use lib.Dec.{ltb, eqb}
-use lib.ListN.{length, getD, set}
+use borrow.Author.Tests.{eq-eqb}
+use lib.ListN.{length}
 use lib.Ieee.{Float}
-use Rattle.domain.specs.Bounds.{mostKinds, mostBoxes}
 use Rattle.measures.specs.declared.Kind.{Kind}
 use Rattle.measures.specs.Orders.{shareOf, lengthsIn}
-use Rattle.measures.specs.Faults.{kindFault}
 use Rattle.points.specs.declared.Choice.{Choice}
 use Rattle.points.specs.declared.Room.{Room}
 use Rattle.points.specs.declared.Pick.{Pick}
 use Rattle.point_set.specs.declared.ExtremePointSet.{ExtremePointSet}
 use Rattle.points.specs.Walls.{scanOf}
 use Rattle.point_set.specs.Stores.{pointAt}
-use Rattle.points.specs.Choose.{bestOf}
-use Rattle.points.specs.Clean.{cond-cases}
+use Rattle.points.specs.Choose.{bestOf, cond-cases}
 use Rattle.floats.specs.Weak.{true-false}
 use Rattle.points.specs.declared.Answer.the-variants.{Stands, NoRoom}
 use Rattle.points.specs.Grow.{settled}
 use Rattle.point_set.specs.Fresh.{nowhere}
 use Rattle.points.specs.Place.{stood, refusalOf, labelOf, placedBy, triedOf}
-use Rattle.points.specs.Fill.{tooHeavy, Attempt, attemptOf}
-
-abbrev pub slotOf : ℕ → ℕ
-slotOf k = cond (ltb k mostKinds) k (mostKinds - 1)
-
-unfoldable pub leftOut : ℕ → Kind → ℕ → Float → Float → Bool
-leftOut k kind held limit total =
-    not (ltb k mostKinds) || (not (eqb (kindFault kind false) 0) || (eqb held mostBoxes || tooHeavy limit total kind))
+use Rattle.points.specs.Fill.{Attempt, attemptOf}
 
 abbrev pub noPick : Pick
 noPick = record { found = false; index = 0; orientation = 0 }
@@ -85,12 +74,6 @@ module _ (choice : ℕ → Choice) where
   pick-same other (suc n) h = rw (h n, pick-same other n h)
 
 -- ---- the pick is what the place calls find
-
--- a refused call places nothing, in whatever orientation
-pub attempt-refused : (s : ExtremePointSet) (kind : Kind) (instance n : ℕ) → eqb (refusalOf (s .live) (s .held) kind) 0 ≡ false → stood (attemptOf s kind instance n .tried .answer) ≡ false
-unfolding attemptOf triedOf
-attempt-refused s kind instance zero e = refl
-attempt-refused s kind instance (suc n) e = rw (attempt-refused s kind instance n e, e)
 
 -- the state after the pick's box
 abbrev pub pickedOf : ExtremePointSet → Kind → ℕ → Pick → ExtremePointSet

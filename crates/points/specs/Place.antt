@@ -1,32 +1,28 @@
--- The place call, and a fresh state.
+-- The place call.
 use mathlib.Core.Path.{_≡_}
-use mathlib.Core.Bool.{Bool, true, false, cond, _||_}
-use mathlib.Core.List.{List, [], _∷_}
+use mathlib.Core.Bool.{Bool, true, false, cond}
+use mathlib.Core.List.{List}
 use Prim.Native.Nat.{ℕ, _+_, _*_, _≤_, _<_}
 use native.Mathlib.Omega.{arith}
-use borrow.Author.Tests.{ltb-false, eqb-false}
-use lib.Dec.{ltb, eqb}
-use lib.ListN.{replicate}
+use borrow.Author.Tests.{eqb-false}
+use lib.Dec.{eqb}
 use lib.Ieee.{Float}
-use Rattle.floats.specs.Ops.{none}
 use Rattle.domain.specs.Bounds.{mostBoxes}
 use Rattle.domain.specs.Refusals.{when, orElse}
-use Rattle.domain.specs.Laws.{or-left, or-right, or-else-first, or-else-second, when-none}
+use Rattle.domain.specs.Laws.{or-else-first, or-else-second, when-none}
 use Rattle.measures.specs.declared.Kind.{Kind}
-use Rattle.measures.specs.declared.Container.{Container}
 use Rattle.measures.specs.Orders.{lengthsIn}
-use Rattle.measures.specs.Faults.{kindFault, containerFault}
+use Rattle.measures.specs.Faults.{kindFault}
 use Rattle.point_set.specs.declared.Label.{Label}
 use Rattle.points.specs.declared.Choice.{Choice}
 use Rattle.point_set.specs.declared.ExtremePointSet.{ExtremePointSet}
-use Rattle.point_set.specs.declared.Fresh.{Fresh}
 use Rattle.points.specs.declared.Tried.{Tried}
 use Rattle.points.specs.declared.Answer.{Answer}
 use Rattle.points.specs.declared.Answer.the-variants.{Stands, NoRoom, Refused}
-use Rattle.point_set.specs.Triples.{cells, put3}
 use Rattle.point_set.specs.Stores.{pointAt}
 use Rattle.points.specs.Choose.{bestOf}
 use Rattle.point_set.specs.Fresh.{nowhere}
+use Rattle.point_set.specs.Reads.{overCounts, within-counts}
 use Rattle.points.specs.Grow.{settled}
 
 -- what 01's words are for each answer: the box stands; it doesn't fit, which is no refusal; the refusal's number
@@ -41,10 +37,6 @@ stood NoRoom = false
 stood (Refused n) = false
 
 -- ---- the place call
-
--- 01: "A state handed in with counts over these bounds gets 2"
-unfoldable pub overCounts : ℕ → ℕ → Bool
-overCounts live held = ltb mostBoxes held || ltb (1 + 2 * held) live
 
 -- 01: 2 for the state; at the kind 4, 3; then 7, "a place call on a placer that already holds 256 boxes"
 unfoldable pub refusalOf : ℕ → ℕ → Kind → ℕ
@@ -73,11 +65,6 @@ pub record Ready (live held : ℕ) (kind : Kind) : Type 0 where
   pub few : live ≤ 1 + 2 * held
   pub room : held < mostBoxes
   pub kind-right : kindFault kind false ≡ 0
-
-pub within-counts : (live held : ℕ) → overCounts live held ≡ false → (held ≤ mostBoxes) × (live ≤ 1 + 2 * held)
-unfolding overCounts
-within-counts live held e =
-    (ltb-false mostBoxes held (or-left (ltb mostBoxes held) _ e), ltb-false (1 + 2 * held) live (or-right (ltb mostBoxes held) _ e))
 
 pub ready : (live held : ℕ) (kind : Kind) → refusalOf live held kind ≡ 0 → Ready live held kind
 unfolding refusalOf

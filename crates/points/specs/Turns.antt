@@ -1,39 +1,41 @@
 -- One box of a fill: what the loop keeps, and that its turn is the turn that the place calls make.
-use mathlib.Core.Path.{_≡_, refl, sym, _∙_, ap}
-use mathlib.Core.Bool.{Bool, true, false, not, cond, _&&_, _||_}
+use mathlib.Core.Path.{_≡_, refl, _∙_}
+use mathlib.Core.Bool.{Bool, true, false, cond}
 use mathlib.Core.List.{List}
-use Prim.Native.Nat.{ℕ, zero, suc, _+_, _-_, _*_, _≤_, _<_}
+use Prim.Native.Nat.{ℕ, zero, suc, _+_, _*_, _≤_, _<_}
 use native.Mathlib.Nat.{le-refl}
 use native.Mathlib.Numerals.{add-one}
 use native.Mathlib.Omega.{arith}
-use borrow.Author.Tests.{ltb-true, ltb-false, lt-ltb, le-ltb, eqb-true, eqb-false, eq-eqb, ne-eqb, not-true, not-false}
-use lib.Dec.{ltb, eqb}
+use borrow.Author.Tests.{le-ltb, ne-eqb}
+use lib.Dec.{eqb}
 use lib.ListN.{length, getD, set, replicate}
 use lib.Seq.{getD-set-other}
 use lib.Ieee.{Float}
-use Rattle.floats.specs.Weak.{true-false}
-use Rattle.domain.specs.Bounds.{mostKinds, mostBoxes}
+use Rattle.floats.specs.Ops.{none}
+use Rattle.domain.specs.Bounds.{mostBoxes}
 use Rattle.domain.specs.Refusals.{when, orElse}
-use Rattle.domain.specs.Laws.{or-left, or-right, not-true-of}
 use Rattle.measures.specs.declared.Kind.{Kind}
+use Rattle.measures.specs.declared.Container.{Container}
 use Rattle.measures.specs.Orders.{shareOf, lengthsIn}
 use Rattle.measures.specs.Faults.{kindFault}
+use Rattle.sheet.specs.Sheets.{noKind}
 use Rattle.point_set.specs.declared.Label.{Label}
 use Rattle.boxes.specs.declared.Instance.{Instance}
 use Rattle.points.specs.declared.Pick.{Pick}
 use Rattle.points.specs.declared.Filled.{Filled}
 use Rattle.point_set.specs.declared.ExtremePointSet.{ExtremePointSet}
-use Rattle.point_set.specs.Triples.{three, three-other}
+use Rattle.point_set.specs.Triples.{cells, three, three-other}
+use Rattle.point_set.specs.Fresh.{startOf}
+use Rattle.point_set.specs.Boxes.{noLabel, labelAt, massWith, massBelow}
+use Rattle.point_set.specs.Reads.{overCounts}
 use Rattle.points.specs.Fit.{roomOf}
 use Rattle.points.specs.Choose.{bestOf, scan-found}
 use Rattle.points.specs.Walls.{Walled, wallsOf, walls-walled, putWalls, put-walled, scanOf, walled-best}
-use Rattle.points.specs.Grow.{putBox, settled, stockOf}
-use Rattle.points.specs.Place.{overCounts, within-counts, refusalOf, labelOf, stood}
-use Rattle.point_set.specs.Boxes.{noLabel, labelAt, heldIn, massWith, massBelow, totalMass}
-use Rattle.points.specs.Clean.{cond-cases, stock-few}
+use Rattle.points.specs.Grow.{putBox, settled, stockOf, stock-few}
+use Rattle.points.specs.Place.{refusalOf}
 use Rattle.boxes.specs.Listing.{noInstance}
-use Rattle.points.specs.Fill.{noKind, kindIn, tooHeavy, Attempt, attemptOf, afterAttempt, turnOf, filledBy}
-use Rattle.points.specs.Pick.{slotOf, leftOut, pickBy, pickOf, pickedOf, pick-same, pick-index, Agrees, attempt-agrees, attempt-refused}
+use Rattle.points.specs.Fill.{tooHeavy, Attempt, attemptOf, afterAttempt, turnOf, filledBy}
+use Rattle.points.specs.Pick.{pickOf, pickedOf, pick-same, pick-index, Agrees, attempt-agrees}
 
 -- ---- what the loop keeps of a state: counts within their bounds, the walls of its boxes, and their mass
 
@@ -43,15 +45,22 @@ pub record Steady (s : ExtremePointSet) (walls : List Float) (mass : Float) : Ty
   pub walled : Walled (s .boxes) (s .container .spacing) (s .held) walls
   pub mass-is : mass ≡ massBelow (s .labels) (s .held)
 
-pub held-within : (held : ℕ) → held ≤ mostBoxes → heldIn held ≡ held
-unfolding heldIn
-held-within held h = rw (le-ltb mostBoxes held h)
+-- an empty container has no walls and no mass
+pub record Empty (s : ExtremePointSet) : Type 0 where
+  pub none-held : s .held ≡ 0
+  pub steady : Steady s (replicate cells none) none
 
--- the start of the loop
-pub steady-first : (s : ExtremePointSet) → overCounts (s .live) (s .held) ≡ false → Steady s (wallsOf (s .boxes) (s .container .spacing) (s .held)) (totalMass s)
-steady-first s e =
-    let w = within-counts (s .live) (s .held) e in
-    record { room = w .0; few = w .1; walled = walls-walled _ _ (s .held) (w .0); mass-is = rw (held-within (s .held) (w .0)) }
+pub fresh-empty : (c : Container) (fault : Bool) → Empty (startOf c fault)
+unfolding startOf wallsOf massBelow
+fresh-empty c fault =
+    record {
+      none-held = refl;
+      steady = record { room = omega arith; few = few-of fault; walled = walls-walled (replicate cells none) (c .spacing) 0 (omega arith); mass-is = refl };
+    }
+  where
+    few-of : (b : Bool) → cond b 0 1 ≤ 1 + 2 * 0
+    few-of true = omega arith
+    few-of false = omega arith
 
 -- a label stored past the first n leaves their mass
 mass-other : (labels : List Label) (n k : ℕ) (l : Label) → n ≤ k → massBelow (set labels k l) n ≡ massBelow labels n
@@ -91,27 +100,12 @@ steady-next s walls mass k label size h l r =
 unfoldable pub turnBy : Pick → Kind → ℕ → Filled → Filled
 turnBy p kind instance f =
     cond (p .found)
-    (record { next = pickedOf (f .next) kind instance p; orientations = set (f .orientations) (f .next .held) (p .orientation) })
+    (record { refused = 0; next = pickedOf (f .next) kind instance p; orientations = set (f .orientations) (f .next .held) (p .orientation) })
     f
-
--- a refusal before another stays one, and the other is given where there is none
-refuses-first : (n m : ℕ) → eqb n 0 ≡ false → eqb (orElse n m) 0 ≡ false
-unfolding orElse
-refuses-first zero m e = true-false e
-refuses-first (suc n) m e = ne-eqb (suc n) 0 (λ q. omega arith)
-
-refuses-then : (n m : ℕ) → eqb (orElse n (suc m)) 0 ≡ false
-unfolding orElse
-refuses-then zero m = ne-eqb (suc m) 0 (λ q. omega arith)
-refuses-then (suc n) m = ne-eqb (suc n) 0 (λ q. omega arith)
 
 no-refusal : (n : ℕ) (b : Bool) → n ≡ 0 → b ≡ false → orElse n (when b 7) ≡ 0
 unfolding orElse
 no-refusal n b e f = rw (e, f)
-
-no-kind : (m : ℕ) → eqb (orElse (kindFault noKind false) m) 0 ≡ false
-unfolding kindFault orElse
-no-kind m = refl
 
 -- by an attempt that agrees with a pick
 after-agrees : (kind : Kind) (instance : ℕ) (f : Filled) (a : Attempt) (p : Pick) → Agrees (f .next) kind instance a p → afterAttempt a f ≡ turnBy p kind instance f
@@ -119,131 +113,60 @@ unfolding turnBy
 after-agrees kind instance f a p h = rw (h .same-found) (go (p .found) refl)
   where
     go : (v : Bool) → p .found ≡ v
-        → cond v (record { next = a .tried .next; orientations = set (f .orientations) (f .next .held) (a .orientation) }) f
-        ≡ cond v (record { next = pickedOf (f .next) kind instance p; orientations = set (f .orientations) (f .next .held) (p .orientation) }) f
+        → cond v (record { refused = 0; next = a .tried .next; orientations = set (f .orientations) (f .next .held) (a .orientation) }) f
+        ≡ cond v (record { refused = 0; next = pickedOf (f .next) kind instance p; orientations = set (f .orientations) (f .next .held) (p .orientation) }) f
     go true e = rw (h .same-next e, h .same-orientation e)
     go false e = refl
 
--- a box that the place calls refuse changes nothing
-cond-same : {A : Type 0} (b : Bool) (a : A) → cond b a a ≡ a
-cond-same true a = refl
-cond-same false a = refl
-
-turn-refused : (f : Filled) (instance : ℕ) (other : Kind) → eqb (refusalOf (f .next .live) (f .next .held) other) 0 ≡ false → turnOf other instance f ≡ f
-unfolding turnOf
-turn-refused f instance other e =
-    rw (attempt-refused (f .next) other instance (length (shareOf (other .rule))) e)
-    (cond-same (tooHeavy (f .next .container .limit) (totalMass (f .next)) other) f)
-
 -- the fill after one item more
 pub fill-more : (s : ExtremePointSet) (kinds : List Kind) (items : List Instance) (i : ℕ) (f : Filled) → f ≡ filledBy s kinds items i
-    → filledBy s kinds items (i + 1) ≡ turnOf (kindIn kinds (getD items i noInstance .kind)) (getD items i noInstance .instance) f
+    → filledBy s kinds items (i + 1) ≡ turnOf (getD kinds (getD items i noInstance .kind) noKind) (getD items i noInstance .instance) f
 unfolding filledBy
 fill-more s kinds items i f e = rw (add-one, ← e)
 
--- with counts over their bounds nothing is placed
-refusal-over : (s : ExtremePointSet) (kind : Kind) → overCounts (s .live) (s .held) ≡ true → eqb (refusalOf (s .live) (s .held) kind) 0 ≡ false
-unfolding refusalOf
-refusal-over s kind e = rw e (refuses-first 2 _ refl)
-
-pub fill-over : (s : ExtremePointSet) (kinds : List Kind) (items : List Instance) (n : ℕ) → overCounts (s .live) (s .held) ≡ true → filledBy s kinds items n ≡ record { next = s; orientations = replicate mostBoxes 0 }
-unfolding filledBy
-fill-over s kinds items zero e = refl
-fill-over s kinds items (suc n) e = rw (fill-over s kinds items n e) (turn-refused _ _ _ (refusal-over s _ e))
-
-module _ (kinds : List Kind) (k instance : ℕ) (f : Filled) (walls : List Float) (mass : Float) (h : Steady (f .next) walls mass) where
+module _ (kind : Kind) (instance : ℕ) (f : Filled) (walls : List Float) (mass : Float) (h : Steady (f .next) walls mass) where
   abbrev s : ExtremePointSet
   s = f .next
 
-  -- the kind that the code reads
-  abbrev kind : Kind
-  kind = getD kinds (slotOf k) noKind
-
-  total : totalMass s ≡ mass
-  total = rw (held-within (s .held) (h .room)) (sym (h .mass-is))
-
-  over : overCounts (s .live) (s .held) ≡ false
+  not-over : overCounts (s .live) (s .held) ≡ false
   unfolding overCounts
-  over = rw (le-ltb mostBoxes (s .held) (h .room), le-ltb (1 + 2 * s .held) (s .live) (h .few))
+  not-over = rw (le-ltb mostBoxes (s .held) (h .room), le-ltb (1 + 2 * s .held) (s .live) (h .few))
 
   -- the refusal left to such a state
-  refusal : (other : Kind) → refusalOf (s .live) (s .held) other ≡ orElse (kindFault other false) (when (eqb (s .held) mostBoxes) 7)
+  refusal : refusalOf (s .live) (s .held) kind ≡ orElse (kindFault kind false) (when (eqb (s .held) mostBoxes) 7)
   unfolding refusalOf orElse
-  refusal other = rw over
+  refusal = rw not-over
 
-  kind-is : ltb k mostKinds ≡ true → kindIn kinds k ≡ kind
-  unfolding kindIn
-  kind-is e = rw e
-
-  past-is : ltb k mostKinds ≡ false → kindIn kinds k ≡ noKind
-  unfolding kindIn
-  past-is e = rw e
-
-  -- a box that is left out changes nothing: the four tests, the last first
-  by-mass : (b : Bool) → tooHeavy (s .container .limit) mass kind ≡ b → b ≡ true → turnOf kind instance f ≡ f
+  -- a box that is too heavy changes nothing
+  pub turn-heavy : tooHeavy (s .container .limit) mass kind ≡ true → turnOf kind instance f ≡ f
   unfolding turnOf
-  by-mass true e _ = rw (total, e)
-  by-mass false e g = true-false (sym g)
+  turn-heavy e = rw (← (h .mass-is), e)
 
-  by-count : (b : Bool) → eqb (s .held) mostBoxes ≡ b → (b || tooHeavy (s .container .limit) mass kind) ≡ true → turnOf kind instance f ≡ f
-  by-count true e _ = turn-refused f instance kind (rw (refusal kind, e) (refuses-then (kindFault kind false) 6))
-  by-count false e g = by-mass _ refl g
-
-  by-fault : (b : Bool) → eqb (kindFault kind false) 0 ≡ b → (not b || (eqb (s .held) mostBoxes || tooHeavy (s .container .limit) mass kind)) ≡ true → turnOf kind instance f ≡ f
-  by-fault true e g = by-count _ refl g
-  by-fault false e _ = turn-refused f instance kind (rw (refusal kind) (refuses-first (kindFault kind false) _ e))
-
-  by-slot : (b : Bool) → ltb k mostKinds ≡ b → (not b || (not (eqb (kindFault kind false) 0) || (eqb (s .held) mostBoxes || tooHeavy (s .container .limit) mass kind))) ≡ true → turnOf (kindIn kinds k) instance f ≡ f
-  by-slot true e g = rw (kind-is e) (by-fault _ refl g)
-  by-slot false e _ = rw (past-is e) (turn-refused f instance noKind (rw (refusal noKind) (no-kind _)))
-
-  pub turn-left : leftOut k kind (s .held) (s .container .limit) mass ≡ true → turnOf (kindIn kinds k) instance f ≡ f
-  unfolding leftOut
-  turn-left e = by-slot _ refl e
-
-  -- what is known of a box that is not left out
+  -- what is known of a box that is tried
   pub record Taken : Type 0 where
-    pub listed : ltb k mostKinds ≡ true
     pub right : kindFault kind false ≡ 0
     pub room : s .held < mostBoxes
     pub light : tooHeavy (s .container .limit) mass kind ≡ false
 
-  pub taken : leftOut k kind (s .held) (s .container .limit) mass ≡ false → Taken
-  unfolding leftOut
-  taken e =
-      let heavy = tooHeavy (s .container .limit) mass kind in
-      let full = eqb (s .held) mostBoxes in
-      let bad = not (eqb (kindFault kind false) 0) in
-      let e₁ = or-right (not (ltb k mostKinds)) (bad || (full || heavy)) e in
-      let e₂ = or-right bad (full || heavy) e₁ in
-      let n = eqb-false (s .held) mostBoxes (or-left full heavy e₂) in
-      let r = h .room in
-      record {
-        listed = not-true-of (ltb k mostKinds) (or-left (not (ltb k mostKinds)) (bad || (full || heavy)) e);
-        right = eqb-true (kindFault kind false) 0 (not-true-of (eqb (kindFault kind false) 0) (or-left bad (full || heavy) e₁));
-        room = omega (arith, n);
-        light = or-right full heavy e₂;
-      }
-
-  -- the pick of a box that is not left out
+  -- the pick of such a box
   abbrev pub pickAt : Pick
   pickAt = pickOf (roomOf (s .container)) walls (s .held) (s .points) (s .live) kind (length (shareOf (kind .rule)))
 
-  -- such a box goes where the pick says
-  turn-picked : Taken → turnOf (kindIn kinds k) instance f ≡ turnBy pickAt kind instance f
+  -- it goes where the pick says
+  turn-picked : Taken → turnOf kind instance f ≡ turnBy pickAt kind instance f
   unfolding turnOf pickOf
   turn-picked t =
-      let r : refusalOf (s .live) (s .held) kind ≡ 0 = refusal kind ∙ no-refusal _ _ (t .right) (ne-eqb (s .held) mostBoxes (λ e. let l = t .room in omega arith)) in
-      rw (kind-is (t .listed), total, t .light)
+      let r : refusalOf (s .live) (s .held) kind ≡ 0 = refusal ∙ no-refusal _ _ (t .right) (ne-eqb (s .held) mostBoxes (λ e. let l = t .room in omega arith)) in
+      rw (← (h .mass-is), t .light)
       (after-agrees kind instance f _ _ (attempt-agrees s kind instance r (length (shareOf (kind .rule))))
       ∙ rw (pick-same (λ o. scanOf (roomOf (s .container)) walls (s .held) (lengthsIn kind o) (s .points) (s .live)) (λ o. bestOf s (lengthsIn kind o)) (length (shareOf (kind .rule))) (λ o. walled-best s walls (lengthsIn kind o) (h .walled))))
 
-  pub turn-none : Taken → pickAt .found ≡ false → turnOf (kindIn kinds k) instance f ≡ f
+  pub turn-none : Taken → pickAt .found ≡ false → turnOf kind instance f ≡ f
   unfolding turnBy
   turn-none t e = turn-picked t ∙ rw e
 
   pub turn-some : Taken → pickAt .found ≡ true
-      → turnOf (kindIn kinds k) instance f ≡ record { next = pickedOf s kind instance pickAt; orientations = set (f .orientations) (s .held) (pickAt .orientation) }
+      → turnOf kind instance f ≡ record { refused = 0; next = pickedOf s kind instance pickAt; orientations = set (f .orientations) (s .held) (pickAt .orientation) }
   unfolding turnBy
   turn-some t e = turn-picked t ∙ rw e
 

@@ -2,19 +2,22 @@
 ghost use mathlib.Core.Path.{_≡_};
 ghost use Prim.Native.Nat.{_+_, _*_, _≤_, _<_};
 ghost use lib.ListN.{length};
-ghost use Rattle.domain.specs.Bounds.{mostKinds, mostBoxes};
+ghost use Rattle.domain.specs.Bounds.{mostBoxes};
+ghost use Rattle.domain.specs.Refusals.{anyBelow};
 ghost use Rattle.measures.specs.Orders.{shareOf};
 ghost use Rattle.point_set.specs.Triples.{mostPoints};
-ghost use Rattle.points.specs.Fill.{tooHeavy, filledBy};
-ghost use Rattle.points.specs.Turns.{Steady};
-ghost use Rattle.points.specs.Pick.{slotOf, leftOut, pickOf};
+ghost use Rattle.points.specs.Fill.{bringsOver, isPast, fillRefusal, Listed, filledBy};
+ghost use Rattle.points.specs.Turns.{Empty};
+ghost use Rattle.points.specs.Pick.{pickOf};
 use crate::Filled;
 use crate::Pick;
 use crate::Room;
 use crate::choose::scan;
 use crate::fit::room_of;
-use crate::grow::settle;
+use crate::grow::put_box;
+use crate::grow::restock;
 use crate::label_of;
+use crate::triples::triple_at;
 use crate::walls::put_walls;
 use boxes::Instance;
 use measures::Kind;
@@ -22,32 +25,40 @@ use point_set::CELLS;
 use point_set::ExtremePointSet;
 use point_set::POINTS;
 use point_set::mass_with;
+use sheet::Sheet;
 
 // Whether a box's mass would bring the total over the limit.
-fn too_heavy(limit: f64, total: f64, kind: Kind) -> bool
-    ensures { λ r. ⌜ r ≡ tooHeavy limit total kind ⌝ }
+fn too_heavy(limit: f64, total: f64, massed: u8, mass: f64) -> bool
+    ensures { λ r. ⌜ r ≡ bringsOver limit total massed mass ⌝ }
 {
-    ((0.0 < limit) & !(kind.massed == 0)) & (limit < total + kind.mass)
+    ((0.0 < limit) & !(massed == 0)) & (limit < total + mass)
 }
 
-// A kind's place in the list, or the last for one past it.
-fn slot(k: usize) -> usize
-    ensures { λ r. ⌜ (r ≡ slotOf k) × (r < mostKinds) ⌝ }
+// Whether one of the first n items is of a kind past the first m.
+fn some_past(items: [Instance; domain::MOST_BOXES], n: usize, m: usize) -> bool
+    requires { ⌜ n ≤ mostBoxes ⌝ }
+    ensures { λ r. ⌜ r ≡ anyBelow (isPast m items) n ⌝ }
 {
-    if k < domain::MOST_KINDS {
-        return k;
+    let mut past = false;
+    let mut i = 0;
+    while i < n {
+        let item = items[i];
+        past = past | !(item.kind < m);
+        i += 1;
     }
-    domain::MOST_KINDS - 1
+    past
 }
 
-// Whether a box is left out before any point is tried: its kind is past the list, the place call would refuse, or it is too
-// heavy.
-fn left_out(k: usize, kind: Kind, held: usize, limit: f64, total: f64) -> bool
-    ensures { λ r. ⌜ r ≡ leftOut k kind held limit total ⌝ }
+// 2 for the items, then the order's own, then 9 for an item of a kind that the order does not have.
+pub(crate) fn fill_refusal(order: Sheet, items: [Instance; domain::MOST_BOXES], count: usize) -> u32
+    ensures { λ r. ⌜ r ≡ fillRefusal order items count ⌝ }
 {
-    let bad = measures::kind_fault(kind, false) != 0;
-    let heavy = too_heavy(limit, total, kind);
-    !(k < domain::MOST_KINDS) | (bad | ((held == domain::MOST_BOXES) | heavy))
+    if count > domain::MOST_BOXES {
+        return 2;
+    }
+    let many = order.many;
+    let past = domain::given(some_past(items, count, many.kinds), 9);
+    domain::or_else(sheet::sheet_refusal(order), past)
 }
 
 // The first of the first n orientations in which some stored point takes the box, and that point.
@@ -84,58 +95,65 @@ fn pick(
     }
 }
 
-// The first n items, one after the other. The walls and the mass are kept up to date beside the state.
+// The first n items, one after the other, in an empty container. The walls and the mass are kept up to date beside the state.
 pub(crate) fn fill_each(
     set: ExtremePointSet,
     kinds: [Kind; domain::MOST_KINDS],
     items: [Instance; domain::MOST_BOXES],
     n: usize,
-    built: [f64; CELLS],
-    carried: f64,
 ) -> Filled
-    requires { ⌜ (n ≤ mostBoxes) × Steady set built carried ⌝ }
+    requires { ⌜ (n ≤ mostBoxes) × Empty set × Listed kinds items n ⌝ }
     ensures { λ r. ⌜ r ≡ filledBy set kinds items n ⌝ }
 {
-    let mut q = set;
-    let mut walls = built;
-    let mut mass = carried;
-    let c = q.container;
+    let c = set.container;
+    let mut live = set.live;
+    let mut held = set.held;
+    let mut points = set.points;
+    let mut boxes = set.boxes;
+    let mut labels = set.labels;
+    let mut walls = [0.0; CELLS];
+    let mut mass = 0.0;
     let room = room_of(c);
     let mut hints = [0usize; POINTS];
     let mut orientations = [0u32; domain::MOST_BOXES];
     let mut i = 0;
     while i < n {
         let item = items[i];
-        let j = slot(item.kind);
+        let j = item.kind;
         let kind = kinds[j];
-        let held = q.held;
+        let weight = kind.mass;
         i += 1;
-        if left_out(item.kind, kind, held, c.limit, mass) {
+        if too_heavy(c.limit, mass, kind.massed, weight) {
             continue;
         }
         let turns = measures::allowed_orientations(kind.rule);
-        let p = pick(
-            &q.points,
-            q.live,
-            &walls,
-            held,
-            room,
-            kind,
-            turns,
-            &mut hints,
-        );
+        let p = pick(&points, live, &walls, held, room, kind, turns, &mut hints);
         if !p.found {
             continue;
         }
+        let k = p.index;
         let size = measures::dimensions_for_orientation(kind, p.orientation);
-        q = settle(q, p.index, label_of(kind, item.instance), size);
-        put_walls(&mut walls, &q.boxes, held, c.spacing);
-        let label = q.labels[held];
+        let at = triple_at(&points, k);
+        live = restock(&mut points, &boxes, c, live, held, k, size);
+        put_box(&mut boxes, held, at, size);
+        put_walls(&mut walls, &boxes, held, c.spacing);
+        labels[held] = label_of(kind, item.instance);
+        let label = labels[held];
         mass = mass_with(mass, label);
         orientations[held] = p.orientation;
+        held += 1;
     }
+    let next = ExtremePointSet {
+        container: c,
+        live,
+        held,
+        points,
+        boxes,
+        labels,
+    };
     Filled {
-        next: q,
+        refused: 0,
+        next,
         orientations,
     }
 }

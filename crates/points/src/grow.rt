@@ -3,7 +3,7 @@ ghost use mathlib.Core.Path.{_≡_};
 ghost use Prim.Native.Nat.{_+_, _*_, _≤_, _<_};
 ghost use Rattle.domain.specs.Bounds.{mostBoxes};
 ghost use Rattle.point_set.specs.Triples.{mostPoints, three};
-ghost use Rattle.points.specs.Grow.{endsOf, pastOf, within, buries, free, valid, cornersOf, Stock, added, grown, settled};
+ghost use Rattle.points.specs.Grow.{endsOf, pastOf, within, buries, free, valid, cornersOf, added, grown, stockBy, putBox, settled};
 use crate::Corners;
 use crate::triples::put_triple;
 use crate::triples::triple_at;
@@ -130,6 +130,37 @@ fn grow(points: &mut [f64; CELLS], live: usize, new: Corners, at: [f64; 3]) -> u
     add(points, two, new.alongz, [at[0], at[1], p[2]])
 }
 
+// The points after a box of these lengths has gone to point k: that one is gone, and the new ones are stored. Gives their
+// count.
+pub(crate) fn restock(
+    points: &mut [f64; CELLS],
+    boxes: &[f64; CELLS],
+    c: Container,
+    live: usize,
+    held: usize,
+    k: usize,
+    size: [f64; 3],
+) -> usize
+    requires { ⌜ (k < live) × (live + 1 < mostPoints) × (held < mostBoxes) ⌝ }
+    ensures { λ r. ⌜ (r ≡ stockBy c (now (boxes .entry)) held live (now (points .entry)) k size .live) × (now (points .exit) ≡ stockBy c (now (boxes .entry)) held live (now (points .entry)) k size .points) ⌝ }
+{
+    let last = live - 1;
+    let at = triple_at(points, k);
+    let tail = triple_at(points, last);
+    put_triple(points, k, tail);
+    let new = new_points(c, boxes, held, at, size);
+    grow(points, last, new, at)
+}
+
+// Stores a box with its position and its dimensions as box n.
+pub(crate) fn put_box(boxes: &mut [f64; CELLS], n: usize, at: [f64; 3], size: [f64; 3])
+    requires { ⌜ n < mostBoxes ⌝ }
+    ensures { λ _. ⌜ now (boxes .exit) ≡ putBox (now (boxes .entry)) n at size ⌝ }
+{
+    put_triple(boxes, 2 * n, at);
+    put_triple(boxes, 2 * n + 1, size);
+}
+
 // Places a box of these lengths at point k.
 pub(crate) fn settle(
     set: ExtremePointSet,
@@ -140,18 +171,21 @@ pub(crate) fn settle(
     requires { ⌜ (k < set .live) × (set .live + 1 < mostPoints) × (set .held < mostBoxes) ⌝ }
     ensures { λ r. ⌜ r ≡ settled set k label size ⌝ }
 {
-    let mut q = set;
-    let held = q.held;
-    let last = q.live - 1;
-    let at = triple_at(&q.points, k);
-    let tail = triple_at(&q.points, last);
-    put_triple(&mut q.points, k, tail);
-    let new = new_points(q.container, &q.boxes, held, at, size);
-    let live = grow(&mut q.points, last, new, at);
-    put_triple(&mut q.boxes, 2 * held, at);
-    put_triple(&mut q.boxes, 2 * held + 1, size);
-    q.labels[held] = label;
-    q.live = live;
-    q.held = held + 1;
-    q
+    let container = set.container;
+    let held = set.held;
+    let mut points = set.points;
+    let mut boxes = set.boxes;
+    let mut labels = set.labels;
+    let at = triple_at(&points, k);
+    let live = restock(&mut points, &boxes, container, set.live, held, k, size);
+    put_box(&mut boxes, held, at, size);
+    labels[held] = label;
+    ExtremePointSet {
+        container,
+        live,
+        held: held + 1,
+        points,
+        boxes,
+        labels,
+    }
 }

@@ -1,7 +1,7 @@
 // The extreme-point placer (extreme_point.rs): the place call, and boxes placed in a given order.
 ghost use mathlib.Core.Path.{_≡_};
 ghost use Rattle.points.specs.Fill.{filledOf};
-ghost use Rattle.points.specs.Place.{overCounts, refusalOf, triedOf, labelOf};
+ghost use Rattle.points.specs.Place.{refusalOf, triedOf, labelOf};
 
 mod choose; // choose.rt: the least stored point at which a box fits
 mod fill; // fill.rt: boxes placed in a given order
@@ -12,14 +12,14 @@ mod walls; // walls.rt: the walls of the placed boxes
 
 use crate::choose::best;
 use crate::fill::fill_each;
+use crate::fill::fill_refusal;
 use crate::grow::settle;
 use crate::triples::triple_at;
-use crate::walls::walls_of;
 use boxes::Instance;
 use measures::Kind;
 use point_set::ExtremePointSet;
 use point_set::Label;
-use point_set::held_in;
+use sheet::Sheet;
 
 // What a box must lie between: `least` on every axis, and `most`.
 struct Room {
@@ -34,10 +34,11 @@ struct Verdict {
     block: usize,
 }
 
-// The point chosen, if one was found.
-struct Choice {
-    found: bool,
-    index: usize,
+// The point chosen, if one was found. It is public because the definition of the place call, and what is proved of it, speak
+// of it.
+pub struct Choice {
+    pub found: bool,
+    pub index: usize,
 }
 
 // Which of the three new points of a placed box are kept, and where their moved axes end.
@@ -64,6 +65,7 @@ pub struct Tried {
 
 // The state after boxes were placed in order; placed box i has the orientation `orientations[i]`.
 pub struct Filled {
+    pub refused: u32,
     pub next: ExtremePointSet,
     pub orientations: [u32; domain::MOST_BOXES],
 }
@@ -75,19 +77,10 @@ struct Pick {
     orientation: u32,
 }
 
-fn over_counts(live: usize, held: usize) -> bool
-    ensures { λ r. ⌜ r ≡ overCounts live held ⌝ }
-{
-    if held > domain::MOST_BOXES {
-        return true;
-    }
-    live > 1 + 2 * held
-}
-
 fn refusal_of(live: usize, held: usize, kind: Kind) -> u32
     ensures { λ r. ⌜ r ≡ refusalOf live held kind ⌝ }
 {
-    let state = domain::given(over_counts(live, held), 2);
+    let state = domain::given(point_set::over_counts(live, held), 2);
     let record = measures::kind_fault(kind, false);
     let full = domain::given(held == domain::MOST_BOXES, 7);
     domain::or_else(state, domain::or_else(record, full))
@@ -136,25 +129,22 @@ pub fn try_place(set: ExtremePointSet, kind: Kind, instance: u32, orientation: u
     }
 }
 
-// Places the first `count` items in their order, each in the first of its kind's orientations that some point takes. An item
-// that would be too heavy, or that a place call would refuse, is left out.
-pub fn fill_in_order(
-    set: ExtremePointSet,
-    kinds: [Kind; domain::MOST_KINDS],
-    items: [Instance; domain::MOST_BOXES],
-    count: usize,
-) -> Filled
-    ensures { λ r. ⌜ r ≡ filledOf set kinds items count ⌝ }
+// Places the first `count` items in their order in the order's container, each in the first of its kind's orientations that
+// some point takes; one that would be too heavy is left out. On a refusal nothing is placed.
+pub fn fill_in_order(order: Sheet, items: [Instance; domain::MOST_BOXES], count: usize) -> Filled
+    ensures { λ r. ⌜ r ≡ filledOf order items count ⌝ }
 {
-    let held = set.held;
-    if over_counts(set.live, held) {
+    let container = order.container;
+    let kinds = order.kinds;
+    let fresh = point_set::new(container);
+    let set = fresh.set;
+    let refused = fill_refusal(order, items, count);
+    if refused != 0 {
         return Filled {
+            refused,
             next: set,
             orientations: [0u32; domain::MOST_BOXES],
         };
     }
-    let c = set.container;
-    let walls = walls_of(&set.boxes, held, c.spacing);
-    let mass = point_set::total_mass(set);
-    fill_each(set, kinds, items, held_in(count), walls, mass)
+    fill_each(set, kinds, items, count)
 }

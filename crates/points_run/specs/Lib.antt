@@ -1,9 +1,6 @@
--- The extreme-point placer's run: the order of the boxes, the plan, and theorems on both.
+-- The extreme-point placer's run: the order of the boxes, and the plan.
 pub mod Stored
 pub mod Order
 pub mod Insert
-pub mod Falling
-pub mod Volumes
+pub mod Kinds
 pub mod Runs
-pub mod Reached
-pub mod Told

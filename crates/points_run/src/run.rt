@@ -1,32 +1,35 @@
 // The run: the boxes placed by falling volume, and the plan that comes of it.
 ghost use mathlib.Core.Path.{_≡_};
-ghost use mathlib.Core.List.{map};
+ghost use mathlib.Core.Bool.{false};
 ghost use Prim.Native.Nat.{_≤_};
 ghost use lib.ListN.{length};
 ghost use Rattle.domain.specs.Bounds.{mostBoxes};
+ghost use Rattle.point_set.specs.Reads.{over};
 ghost use Rattle.plans.specs.Plans.{blankLine};
 ghost use Rattle.plans.specs.Hand.{handedOf, slotsOf};
 ghost use Rattle.points_run.specs.Stored.{stored};
-ghost use Rattle.points_run.specs.Runs.{lineOf, planFrom, epPackingOf};
+ghost use Rattle.points_run.specs.Runs.{lineBy, planFrom, epPackingOf};
 use crate::order::falling_boxes;
 use measures::Container;
 use measures::Kind;
 use plans::Packed;
 use plans::Plan;
+use point_set::CELLS;
+use point_set::Label;
 use points::Filled;
 use sheet::Line;
 use sheet::Sheet;
 
-// The lines of the placed boxes, in the order placed.
-fn lines_of(filled: Filled) -> [Line; domain::MOST_LINES]
-    requires { ⌜ filled .next .held ≤ mostBoxes ⌝ }
-    ensures { λ r. ⌜ r ≡ stored blankLine (lineOf filled) (filled .next .held) ⌝ }
+// The lines of the first n placed boxes, in the order placed.
+fn lines_of(
+    labels: [Label; domain::MOST_BOXES],
+    boxes: &[f64; CELLS],
+    orientations: &[u32; domain::MOST_BOXES],
+    n: usize,
+) -> [Line; domain::MOST_LINES]
+    requires { ⌜ n ≤ mostBoxes ⌝ }
+    ensures { λ r. ⌜ r ≡ stored blankLine (lineBy labels (now (boxes .entry)) (now (orientations .entry))) n ⌝ }
 {
-    let next = filled.next;
-    let orientations = filled.orientations;
-    let labels = next.labels;
-    let boxes = next.boxes;
-    let n = next.held;
     let none = Line {
         id: 0,
         instance: 0,
@@ -60,13 +63,16 @@ fn plan_of(
     filled: Filled,
     n: u64,
 ) -> Plan
-    requires { ⌜ filled .next .held ≤ mostBoxes ⌝ }
+    requires { ⌜ over (filled .next) ≡ false ⌝ }
     ensures { λ r. ⌜ r ≡ planFrom container kinds m filled n ⌝ }
 {
-    let lines = lines_of(filled);
     let next = filled.next;
+    let labels = next.labels;
+    let orientations = filled.orientations;
+    let lines = lines_of(labels, &next.boxes, &orientations, next.held);
     let size = container.size;
-    let utilization = point_set::total_volume(next) / measures::measure(size);
+    let volume = point_set::total_volume(next);
+    let utilization = volume.amount / measures::measure(size);
     plans::planned(kinds, m, lines, next.held, n, utilization)
 }
 
@@ -85,9 +91,7 @@ pub fn ep_packing(order: Sheet, consider: u64) -> Plan
     let all = sheet::boxes_in(kinds, m);
     let n = plans::smaller(consider, all);
     let boxes = falling_boxes(kinds, all as usize);
-    let fresh = point_set::new(container);
-    let set = fresh.set;
-    let filled = points::fill_in_order(set, kinds, boxes, n as usize);
+    let filled = points::fill_in_order(order, boxes, n as usize);
     plan_of(container, kinds, m, filled, n)
 }
 

@@ -1,14 +1,16 @@
 -- `points::refusal_of` meets its contract: the three refusals in their order.
-use borrow.Author.Needs.{needs}
 use Rattle.points.specs.Place.{refusalOf}
 use Rattle.points.proofs.refusal_of.Statement.{statement}
 use Rattle.points.proofs.refusal_of.Tie as tie
 
 returns : tie.Need-returns
 unfolding refusalOf
-returns c = cc
+returns c =
+    let f = c .before .before in
+    let g = f .before .before in
+    rw (c .or-else2 .ensures, c .before .or-else .ensures, f .given2 .ensures, f .before .kind-fault .ensures, g .given .ensures, g .before .over-counts .ensures)
 
 pub refusal-of-spec : {M : Type 1} → statement M
 refusal-of-spec =
     tie.close
-    (tie.spec (λ c κs. search needs) (λ c κs. search needs) (λ c κs. search needs) (λ c κs. search needs) (λ c κs. search needs) (λ c κs. search needs) returns)
+    (tie.spec (λ c κs. tt) (λ c κs. tt) (λ c κs. tt) (λ c κs. tt) (λ c κs. tt) (λ c κs. tt) returns)

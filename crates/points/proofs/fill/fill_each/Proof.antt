@@ -1,6 +1,6 @@
 -- `points::fill::fill_each` meets its contract: after i turns the state and the orientations are those of the first i items, and the
 -- walls and the mass are those of its boxes.
-use Prim.Native.Nat.{ℕ, _≤_, _<_, _-_, _+_}
+use Prim.Native.Nat.{ℕ, _≤_, _<_, _-_, _+_, _*_}
 use mathlib.Core.Path.{_≡_, refl, sym, _∙_, ap}
 use mathlib.Core.Bool.{Bool, true}
 use mathlib.Core.List.{List}
@@ -20,110 +20,124 @@ use Rattle.points.specs.declared.Filled.{Filled}
 use Rattle.domain.specs.Bounds.{mostBoxes}
 use Rattle.points.specs.Fit.{roomOf}
 use Rattle.points.specs.Walls.{putWalls}
-use Rattle.points.specs.Grow.{settled}
+use Rattle.points.specs.Grow.{stockOf, putBox, settled}
 use Rattle.points.specs.Place.{labelOf}
+use Rattle.point_set.specs.Triples.{three}
 use Rattle.point_set.specs.Boxes.{labelAt, massWith}
 use Rattle.boxes.specs.Listing.{noInstance}
-use Rattle.points.specs.Fill.{noKind, filledBy}
-use Rattle.points.specs.Pick.{leftOut, slotOf, pickOf, pickedOf, share-few}
-use Rattle.points.specs.Turns.{Steady, Taken, taken, pickAt, fill-more, turn-left, turn-none, turn-some, picked-index, steady-next}
+use Rattle.sheet.specs.Sheets.{noKind}
+use Rattle.points.specs.Fill.{tooHeavy, Listed, filledBy}
+use Rattle.points.specs.Pick.{pickOf, pickedOf, share-few}
+use Rattle.points.specs.Turns.{Steady, Taken, pickAt, fill-more, turn-heavy, turn-none, turn-some, picked-index, steady-next}
 use Rattle.points.proofs.fill.fill_each.Statement.{statement}
 use Rattle.points.proofs.fill.fill_each.Tie as tie
 
+-- the state that the code keeps in parts
+abbrev state : Container → ℕ → ℕ → List Float → List Float → List Label → ExtremePointSet
+state c live held points boxes labels = record { container = c; live = live; held = held; points = points; boxes = boxes; labels = labels }
+
 abbrev Inv-loop : tie.InvT-loop
-Inv-loop n carried kinds items q₀ walls₀ mass₀ c room hints₀ orientations₀ i₀ q walls mass hints orientations i =
+Inv-loop n kinds items c live₀ held₀ points₀ boxes₀ labels₀ walls₀ mass₀ room hints₀ orientations₀ i₀ live held points boxes labels walls mass hints orientations i =
     (i ≤ n)
-    × (_≡_ {A = Filled} (record { next = q; orientations = orientations }) (filledBy q₀ kinds items i))
-    × (q .container ≡ q₀ .container)
-    × Steady q walls mass
+    × (_≡_ {A = Filled} (record { refused = 0; next = state c live held points boxes labels; orientations = orientations }) (filledBy (state c live₀ held₀ points₀ boxes₀ labels₀) kinds items i))
+    × (held ≤ i)
+    × Steady (state c live held points boxes labels) walls mass
 
 abbrev μ-loop : tie.MeasureT-loop
-μ-loop n carried kinds items q₀ walls₀ mass₀ c room hints₀ orientations₀ i₀ q walls mass hints orientations i = n - i
+μ-loop n kinds items c live₀ held₀ points₀ boxes₀ labels₀ walls₀ mass₀ room hints₀ orientations₀ i₀ live held points boxes labels walls mass hints orientations i = n - i
 
 loop-holds : tie.Need-loop-holds Inv-loop μ-loop
 unfolding filledBy
-loop-holds c = (omega arith, refl, refl, c .before .before .pre .1)
+loop-holds c = let e = c .before .before .before .before .before .pre .1 in (omega arith, refl, rw (e .none-held) (omega arith), e .steady)
 
 -- ---- what a turn has in hand
 
 abbrev At : Type 0
 At = tie.At-loop Inv-loop μ-loop
 
+abbrev start : At → tie.Start Inv-loop μ-loop
+start c = c .before .before .before .before .before .before
+
 abbrev kinds : At → List Kind
-kinds c = c .before .before .before .args .t2
+kinds c = start c .args .t2
 
 abbrev item : At → Instance
-item c = getD (c .before .before .before .args .t3) (c .loop .i) noInstance
+item c = getD (start c .args .t3) (c .loop .i) noInstance
+
+abbrev now-at : At → ExtremePointSet
+now-at c = state (start c .args .set .container) (c .loop .live) (c .loop .held) (c .loop .points) (c .loop .boxes) (c .loop .labels)
 
 abbrev so-far : At → Filled
-so-far c = record { next = c .loop .q; orientations = c .loop .orientations }
+so-far c = record { refused = 0; next = now-at c; orientations = c .loop .orientations }
 
 abbrev kind : At → Kind
-kind c = getD (kinds c) (slotOf (item c .kind)) noKind
+kind c = getD (kinds c) (item c .kind) noKind
 
-below : (c : tie.In-loop Inv-loop μ-loop) → c .before .loop .i < c .before .before .before .before .args .n
+listed : (c : At) → Listed (kinds c) (start c .args .t3) (start c .args .n)
+listed c = start c .pre .2
+
+mul-kind : tie.Need-mul-kind Inv-loop μ-loop
+mul-kind c = let h = listed (c .before .before) .kind-in (c .before .before .loop .i) (omega arith) in omega (arith, h)
+
+array-copy-out-kind : tie.Need-array-copy-out-kind Inv-loop μ-loop
+array-copy-out-kind c = listed (c .before .before) .kind-in (c .before .before .loop .i) (omega arith)
+
+below : (c : tie.In-loop Inv-loop μ-loop) → c .before .loop .i < start (c .before) .args .n
 below c = omega arith
 
-abbrev in-left : tie.After-left-out Inv-loop μ-loop → tie.In-loop Inv-loop μ-loop
-in-left c = c .before .before .before .before
+abbrev in-heavy : tie.After-too-heavy Inv-loop μ-loop → tie.In-loop Inv-loop μ-loop
+in-heavy c = c .before .before .before
 
--- the code's slot and container for those of the definitions
-left-by : (kinds : List Kind) (k j held : ℕ) (a b : Container) (mass : Float) (r : Bool) → j ≡ slotOf k → a ≡ b
-    → r ≡ leftOut k (getD kinds j noKind) held (b .limit) mass → r ≡ leftOut k (getD kinds (slotOf k) noKind) held (a .limit) mass
-left-by kinds k j held a b mass r e f h = rw (← e, f) h
-
-abbrev at-left : tie.After-left-out Inv-loop μ-loop → At
-at-left c = in-left c .before
-
-left-is : (c : tie.After-left-out Inv-loop μ-loop)
-    → c .left-out .result ≡ leftOut (item (at-left c) .kind) (kind (at-left c)) (at-left c .loop .q .held) (at-left c .loop .q .container .limit) (at-left c .loop .mass)
-left-is c =
-    left-by (kinds (at-left c)) _ (c .before .before .slot .result) _ _ _ _ _ (c .before .before .slot .ensures .0) (at-left c .loop .inv .2) (c .left-out .ensures)
+abbrev at-heavy : tie.After-too-heavy Inv-loop μ-loop → At
+at-heavy c = in-heavy c .before
 
 loop-again : tie.Need-loop-again Inv-loop μ-loop
 loop-again c =
-    let t = at-left (c .before) in
+    let t = at-heavy (c .before) in
     let l = t .loop in
-    (omega arith, sym (fill-more _ (kinds t) _ (l .i) (so-far t) (l .inv .1) ∙ turn-left (kinds t) (item t .kind) (item t .instance) (so-far t) (l .walls) (l .mass) (l .inv .3) (sym (left-is (c .before)) ∙ c .if1 .taken)), l .inv .2, l .inv .3)
+    let f = l .inv .2 in
+    let b = below (in-heavy (c .before)) in
+    (omega arith, sym (fill-more _ (kinds t) _ (l .i) (so-far t) (l .inv .1) ∙ turn-heavy (kind t) (item t .instance) (so-far t) (l .walls) (l .mass) (l .inv .3) (sym (c .before .too-heavy .ensures) ∙ c .if1 .taken)), omega arith, l .inv .3)
 
--- the box is not left out
-taken-at : (c : tie.Else1 Inv-loop μ-loop) → let t = at-left (c .before) in Taken (kinds t) (item t .kind) (item t .instance) (so-far t) (t .loop .walls) (t .loop .mass) (t .loop .inv .3)
+-- the box is tried
+taken-at : (c : tie.Else1 Inv-loop μ-loop) → let t = at-heavy (c .before) in Taken (kind t) (item t .instance) (so-far t) (t .loop .walls) (t .loop .mass) (t .loop .inv .3)
 taken-at c =
-    let t = at-left (c .before) in
-    taken (kinds t) (item t .kind) (item t .instance) (so-far t) (t .loop .walls) (t .loop .mass) (t .loop .inv .3) (sym (left-is (c .before)) ∙ c .if1 .left)
+    let i = in-heavy (c .before) in
+    let t = i .before in
+    let f = t .loop .inv .2 in
+    let b = below i in
+    let m = start t .pre .0 in
+    record { right = listed t .kind-right (t .loop .i) b; room = omega (arith, f, b, m); light = sym (c .before .too-heavy .ensures) ∙ c .if1 .left }
 
 pick-requires : tie.Need-pick-requires Inv-loop μ-loop
 pick-requires c κs =
-    let a = c .before .before .before .before in
-    let t = at-left (a .before .before) in
+    let a = c .before .before .before in
+    let t = at-heavy (a .before .before) in
     let h = t .loop .inv .3 in
     let f = h .few in
     let r = h .room in
-    let k = share-few (getD (kinds t) (a .before .before .before .before .slot .result) noKind .rule) in
-    (r, omega arith, rw (a .allowed-orientations .ensures) k)
+    (r, omega arith, rw (a .allowed-orientations .ensures) (share-few (kind t .rule)))
 
 -- ---- the pick
 
-pick-by : (kinds : List Kind) (k j : ℕ) (q : ExtremePointSet) (b : Container) (walls : List Float) (room : Room) (n : ℕ) (r : Pick) → j ≡ slotOf k → q .container ≡ b
-    → room ≡ roomOf b → n ≡ length (shareOf (getD kinds j noKind .rule)) → r ≡ pickOf room walls (q .held) (q .points) (q .live) (getD kinds j noKind) n
-    → r ≡ pickOf (roomOf (q .container)) walls (q .held) (q .points) (q .live) (getD kinds (slotOf k) noKind) (length (shareOf (getD kinds (slotOf k) noKind .rule)))
-pick-by kinds k j q b walls room n r e f g m h = rw (← e, f, ← g, ← m) h
+pick-by : (kind : Kind) (held live : ℕ) (points walls : List Float) (b : Container) (room : Room) (n : ℕ) (r : Pick) → room ≡ roomOf b → n ≡ length (shareOf (kind .rule))
+    → r ≡ pickOf room walls held points live kind n → r ≡ pickOf (roomOf b) walls held points live kind (length (shareOf (kind .rule)))
+pick-by kind held live points walls b room n r g m h = rw (← g, ← m) h
+
+abbrev heavy-pick : tie.After-pick Inv-loop μ-loop → tie.After-too-heavy Inv-loop μ-loop
+heavy-pick c = c .before .before .before .before .before .before
 
 abbrev at-pick : tie.After-pick Inv-loop μ-loop → At
-at-pick c = at-left (c .before .before .before .before .before .before .before)
+at-pick c = at-heavy (heavy-pick c)
 
 abbrev picked : At → Pick
-picked t = pickAt (kinds t) (item t .kind) (item t .instance) (so-far t) (t .loop .walls) (t .loop .mass) (t .loop .inv .3)
+picked t = pickAt (kind t) (item t .instance) (so-far t) (t .loop .walls) (t .loop .mass) (t .loop .inv .3)
 
 pick-is : (c : tie.After-pick Inv-loop μ-loop) → c .pick .result ≡ picked (at-pick c)
 pick-is c =
     let t = at-pick c in
-    let a = c .before .before .before .before .before in
-    let s = a .before .before .before .before in
-    pick-by (kinds t) (item t .kind) (s .slot .result) (t .loop .q) _ (t .loop .walls) (t .before .room-of .result) (a .allowed-orientations .result) (c .pick .result) (s .slot .ensures .0) (t .loop .inv .2) (t .before .room-of .ensures) (a .allowed-orientations .ensures) (c .pick .ensures)
-
-abbrev left-pick : tie.After-pick Inv-loop μ-loop → tie.After-left-out Inv-loop μ-loop
-left-pick c = c .before .before .before .before .before .before .before
+    let a = c .before .before .before .before in
+    pick-by (kind t) (t .loop .held) (t .loop .live) (t .loop .points) (t .loop .walls) (now-at t .container) (t .before .room-of .result) (a .allowed-orientations .result) (c .pick .result) (t .before .room-of .ensures) (a .allowed-orientations .ensures) (c .pick .ensures)
 
 loop-again-2 : tie.Need-loop-again-2 Inv-loop μ-loop
 loop-again-2 c =
@@ -131,8 +145,9 @@ loop-again-2 c =
     let t = at-pick p in
     let l = t .loop in
     let e = rw (pick-is p) at (not-true (p .pick .result .found) (c .if2 .taken)) in
-    let b = below (in-left (left-pick p)) in
-    (omega arith, sym (fill-more _ (kinds t) _ (l .i) (so-far t) (l .inv .1) ∙ turn-none (kinds t) (item t .kind) (item t .instance) (so-far t) (l .walls) (l .mass) (l .inv .3) (taken-at (p .before .before .before .before .before .before)) e), l .inv .2, l .inv .3)
+    let b = below (in-heavy (heavy-pick p)) in
+    let f = l .inv .2 in
+    (omega arith, sym (fill-more _ (kinds t) _ (l .i) (so-far t) (l .inv .1) ∙ turn-none (kind t) (item t .instance) (so-far t) (l .walls) (l .mass) (l .inv .3) (taken-at (p .before .before .before .before .before)) e), omega arith, l .inv .3)
 
 -- ---- a point was found
 
@@ -145,88 +160,119 @@ at-else c = at-pick (pick-else c)
 found-at : (c : tie.Else2 Inv-loop μ-loop) → picked (at-else c) .found ≡ true
 found-at c = rw (pick-is (pick-else c)) at (not-false (pick-else c .pick .result .found) (c .if2 .left))
 
-taken-else : (c : tie.Else2 Inv-loop μ-loop) → let t = at-else c in Taken (kinds t) (item t .kind) (item t .instance) (so-far t) (t .loop .walls) (t .loop .mass) (t .loop .inv .3)
-taken-else c = taken-at (pick-else c .before .before .before .before .before .before)
+taken-else : (c : tie.Else2 Inv-loop μ-loop) → let t = at-else c in Taken (kind t) (item t .instance) (so-far t) (t .loop .walls) (t .loop .mass) (t .loop .inv .3)
+taken-else c = taken-at (pick-else c .before .before .before .before .before)
 
-index-at : (c : tie.Else2 Inv-loop μ-loop) → picked (at-else c) .index < at-else c .loop .q .live
-index-at c =
-    let t = at-else c in
-    picked-index (kinds t) (item t .kind) (item t .instance) (so-far t) (t .loop .walls) (t .loop .mass) (t .loop .inv .3) (found-at c)
+-- the chosen point is one of the stored ones, and there is room for one box more
+picked-at : (c : tie.Else2 Inv-loop μ-loop) → picked (at-else c) .index < at-else c .loop .live
+picked-at c =
+    let t = at-else c in picked-index (kind t) (item t .instance) (so-far t) (t .loop .walls) (t .loop .mass) (t .loop .inv .3) (found-at c)
 
-settle-requires : tie.Need-settle-requires Inv-loop μ-loop
-settle-requires c κs =
-    let e = c .before .before in
-    let h = at-else e .loop .inv .3 in
-    let f = h .few in
-    let r = taken-else e .room in
-    (rw (pick-is (pick-else e)) (index-at e), omega arith, r)
+index-by : (p o : Pick) (n : ℕ) → p ≡ o → o .index < n → p .index < n
+index-by p o n e h = rw e h
+
+index-at : (c : tie.Else2 Inv-loop μ-loop) → pick-else c .pick .result .index < at-else c .loop .live
+index-at c = index-by (pick-else c .pick .result) (picked (at-else c)) (at-else c .loop .live) (pick-is (pick-else c)) (picked-at c)
+
+abbrev room-at : (c : tie.Else2 Inv-loop μ-loop) → at-else c .loop .held < mostBoxes
+room-at c = taken-else c .room
+
+abbrev few-at : (c : tie.Else2 Inv-loop μ-loop) → at-else c .loop .live ≤ 1 + 2 * at-else c .loop .held
+few-at c = at-else c .loop .inv .3 .few
+
+triple-at-requires : tie.Need-triple-at-requires Inv-loop μ-loop
+triple-at-requires c κs = let e = c .before .before in let i = index-at e in let r = room-at e in let f = few-at e in omega arith
+
+abbrev boxes2-else : tie.After-boxes2 Inv-loop μ-loop → tie.Else2 Inv-loop μ-loop
+boxes2-else c = c .before .before .before .before .before
+
+restock-requires : tie.Need-restock-requires Inv-loop μ-loop
+restock-requires c κs = let e = boxes2-else c in let r = room-at e in let f = few-at e in (index-at e, omega arith, r)
+
+put-box-requires : tie.Need-put-box-requires Inv-loop μ-loop
+put-box-requires c κs = room-at (boxes2-else (c .before .before))
 
 put-walls-requires : tie.Need-put-walls-requires Inv-loop μ-loop
-put-walls-requires c κs = taken-else (c .before .before .before .before .before .before) .room
+put-walls-requires c κs = room-at (boxes2-else (c .before .before .before .before .before))
+
+abbrev walls-else : tie.After-put-walls Inv-loop μ-loop → tie.Else2 Inv-loop μ-loop
+walls-else c = boxes2-else (c .before .before .before .before .before .before)
+
+mul-labels : tie.Need-mul-labels Inv-loop μ-loop
+mul-labels c = let r = room-at (walls-else (c .before)) in omega (arith, r)
+
+array-set-from-labels : tie.Need-array-set-from-labels Inv-loop μ-loop
+array-set-from-labels c = room-at (walls-else (c .before))
 
 mul-label : tie.Need-mul-label Inv-loop μ-loop
-mul-label c = let r = taken-else (c .before .before .before .before .before .before .before) .room in omega (arith, r)
+mul-label c = let r = room-at (walls-else (c .before)) in omega (arith, r)
 
-element-copy-out-label : tie.Need-element-copy-out-label Inv-loop μ-loop
-element-copy-out-label c = taken-else (c .before .before .before .before .before .before .before) .room
+array-copy-out-label : tie.Need-array-copy-out-label Inv-loop μ-loop
+array-copy-out-label c = room-at (walls-else (c .before))
+
+abbrev mass-else : tie.After-mass-with Inv-loop μ-loop → tie.Else2 Inv-loop μ-loop
+mass-else c = walls-else (c .before .before .before)
 
 mul-orientations : tie.Need-mul-orientations Inv-loop μ-loop
-mul-orientations c = let r = taken-else (c .before .before .before .before .before .before .before .before .before) .room in omega (arith, r)
+mul-orientations c = let r = room-at (mass-else c) in omega (arith, r)
 
 array-write-orientations : tie.Need-array-write-orientations Inv-loop μ-loop
-array-write-orientations c = taken-else (c .before .before .before .before .before .before .before .before .before) .room
+array-write-orientations c = room-at (mass-else c)
 
-settled-by : (q : ExtremePointSet) (kinds : List Kind) (k j instance : ℕ) (p o : Pick) (label : Label) (size : List Float) (r : ExtremePointSet) → j ≡ slotOf k → p ≡ o
-    → size ≡ lengthsIn (getD kinds j noKind) (p .orientation) → label ≡ labelOf (getD kinds j noKind) instance → r ≡ settled q (p .index) label size
-    → r ≡ pickedOf q (getD kinds (slotOf k) noKind) instance o
-settled-by q kinds k j instance p o label size r e f g l h = rw (← e, ← f, ← g, ← l) h
+add-held : tie.Need-add-held Inv-loop μ-loop
+add-held c = let r = room-at (mass-else c) in omega (arith, r)
 
-settle-is : (c : tie.After-settle Inv-loop μ-loop) → let t = at-else (c .before .before .before) in c .settle .result ≡ pickedOf (t .loop .q) (kind t) (item t .instance) (picked t)
-settle-is c =
-    let e = c .before .before .before in
-    let t = at-else e in
-    let s = left-pick (pick-else e) .before .before in
-    settled-by (t .loop .q) (kinds t) (item t .kind) (s .slot .result) (item t .instance) (pick-else e .pick .result) (picked t) _ _ _ (s .slot .ensures .0) (pick-is (pick-else e)) (c .before .before .dimensions-for-orientation .ensures) (c .before .label-of .ensures) (c .settle .ensures)
+-- what the parts come to after a box
+settled-by : (s : ExtremePointSet) (kind : Kind) (instance : ℕ) (p o : Pick) (label : Label) (size at : List Float) (live : ℕ) (points boxes : List Float) → p ≡ o
+    → size ≡ lengthsIn kind (p .orientation) → label ≡ labelOf kind instance → at ≡ three (s .points) (p .index) → live ≡ stockOf s (p .index) size .live
+    → points ≡ stockOf s (p .index) size .points → boxes ≡ putBox (s .boxes) (s .held) at size
+    → state (s .container) live (s .held + 1) points boxes (set (s .labels) (s .held) label) ≡ pickedOf s kind instance o
+unfolding settled
+settled-by s kind instance p o label size at live points boxes f g l a v w b = rw (v, w, b, a, l, g, f)
 
-steady-by : (q : ExtremePointSet) (walls : List Float) (mass : Float) (k : ℕ) (label : Label) (size : List Float) (b : Container) (r : ExtremePointSet) (walls′ : List Float) (mass′ : Float)
-    → Steady q walls mass → k < q .live → q .held < mostBoxes → q .container ≡ b → r ≡ settled q k label size
-    → walls′ ≡ putWalls walls (r .boxes) (q .held) (b .spacing) → mass′ ≡ massWith mass (labelAt r (q .held)) → Steady r walls′ mass′
-steady-by q walls mass k label size b r walls′ mass′ h l m f e w v = rw (w, v, e, ← f) (steady-next q walls mass k label size h l m)
+steady-by : (s : ExtremePointSet) (walls : List Float) (mass : Float) (k : ℕ) (label : Label) (size : List Float) (r : ExtremePointSet) (walls′ : List Float) (mass′ : Float)
+    → Steady s walls mass → k < s .live → s .held < mostBoxes → r ≡ settled s k label size → walls′ ≡ putWalls walls (r .boxes) (s .held) (s .container .spacing)
+    → mass′ ≡ massWith mass (labelAt r (s .held)) → Steady r walls′ mass′
+steady-by s walls mass k label size r walls′ mass′ h l m e w v = rw (w, v, e) (steady-next s walls mass k label size h l m)
 
 filled-by : (r q : ExtremePointSet) (turns : List ℕ) (held o m : ℕ) → r ≡ q → o ≡ m
-    → _≡_ {A = Filled} (record { next = r; orientations = set turns held o }) (record { next = q; orientations = set turns held m })
+    → _≡_ {A = Filled} (record { refused = 0; next = r; orientations = set turns held o }) (record { refused = 0; next = q; orientations = set turns held m })
 filled-by r q turns held o m e f = rw (e, f)
 
 loop-less-3 : tie.Need-loop-less-3 Inv-loop μ-loop
-loop-less-3 c =
-    let b = below (in-left (left-pick (pick-else (c .before .before .before .before .before .before .before .before .before)))) in
-    omega (arith, b)
+loop-less-3 c = let b = below (in-heavy (heavy-pick (pick-else (mass-else c)))) in omega (arith, b)
 
 loop-again-3 : tie.Need-loop-again-3 Inv-loop μ-loop
 unfolding settled
 loop-again-3 c =
-    let w = c .before .before in
-    let s = w .before .before .before .before in
-    let e = s .before .before .before in
+    let w = c .before .before .before in
+    let b = w .before .before .before in
+    let r = b .before .before in
+    let a = r .before .before .before in
+    let e = mass-else c in
     let t = at-else e in
     let l = t .loop in
-    let b = below (in-left (left-pick (pick-else e))) in (
+    let m = below (in-heavy (heavy-pick (pick-else e))) in
+    let f = l .inv .2 in
+    let q =
+    settled-by (now-at t) (kind t) (item t .instance) (pick-else e .pick .result) (picked t) _ _ _ _ _ _ (pick-is (pick-else e)) (a .before .before .dimensions-for-orientation .ensures)
+    (c .before .before .label-of .ensures) (a .triple-at .ensures) (r .restock .ensures .0) (r .restock .ensures .1) (b .put-box .ensures) in (
       omega arith,
-      filled-by (s .settle .result) _ (l .orientations) (l .q .held) (pick-else e .pick .result .orientation) _ (settle-is s) (ap (λ (p : Pick). p .orientation) (pick-is (pick-else e)))
-          ∙ sym (fill-more _ (kinds t) _ (l .i) (so-far t) (l .inv .1) ∙ turn-some (kinds t) (item t .kind) (item t .instance) (so-far t) (l .walls) (l .mass) (l .inv .3) (taken-else e) (found-at e)),
-      ap (λ (q : ExtremePointSet). q .container) (settle-is s) ∙ l .inv .2,
-      steady-by (l .q) (l .walls) (l .mass) (picked t .index) _ _ _ _ _ _ (l .inv .3) (index-at e) (taken-else e .room) (l .inv .2) (settle-is s) (w .put-walls .ensures) (c .mass-with .ensures),
+      filled-by _ _ (l .orientations) (l .held) (pick-else e .pick .result .orientation) _ q (ap (λ (p : Pick). p .orientation) (pick-is (pick-else e)))
+          ∙ sym (fill-more _ (kinds t) _ (l .i) (so-far t) (l .inv .1) ∙ turn-some (kind t) (item t .instance) (so-far t) (l .walls) (l .mass) (l .inv .3) (taken-else e) (found-at e)),
+      omega arith,
+      steady-by (now-at t) (l .walls) (l .mass) (picked t .index) _ _ _ _ _ (l .inv .3) (picked-at e) (room-at e) q (w .put-walls .ensures) (c .mass-with .ensures),
     )
 
 returns : tie.Need-returns Inv-loop μ-loop
 returns c =
-    let e : c .before .loop .i ≡ c .before .before .before .before .args .n = omega arith in
+    let e : c .before .loop .i ≡ start (c .before) .args .n = omega arith in
     rw e at (c .before .loop .inv .1)
 
 pub fill-each-spec : {M : Type 1} → statement M
 fill-each-spec =
     tie.close
-    (tie.spec Inv-loop μ-loop (λ c κs. tt) loop-holds (λ c. omega arith) (λ c. omega arith) (λ c κs. tt) (λ c. omega arith) (λ c. omega arith)
-    (λ c. omega arith) (λ c κs. tt) (λ c. omega arith) loop-again (λ c κs. tt) pick-requires (λ c. omega arith) loop-again-2 (λ c κs. tt) (λ c κs. tt)
-    settle-requires put-walls-requires mul-label element-copy-out-label (λ c κs. tt) mul-orientations array-write-orientations loop-less-3
-    loop-again-3 returns)
+    (tie.spec Inv-loop μ-loop (λ c κs. tt) loop-holds (λ c. omega arith) (λ c. omega arith) mul-kind array-copy-out-kind (λ c. omega arith) (λ c κs. tt)
+    (λ c. omega arith) loop-again (λ c κs. tt) pick-requires (λ c. omega arith) loop-again-2 (λ c κs. tt) triple-at-requires restock-requires
+    put-box-requires put-walls-requires (λ c κs. tt) mul-labels array-set-from-labels mul-label array-copy-out-label (λ c κs. tt)
+    mul-orientations array-write-orientations add-held loop-less-3 loop-again-3 returns)

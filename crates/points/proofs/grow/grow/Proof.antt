@@ -1,6 +1,5 @@
 -- `points::grow::grow` meets its contract: three times one point more where it is kept.
 use native.Mathlib.Omega.{arith}
-use borrow.Author.Needs.{needs}
 use Rattle.points.specs.Grow.{countWith, count-with}
 use Rattle.points.proofs.grow.grow.Statement.{statement}
 use Rattle.points.proofs.grow.grow.Tie as tie
@@ -28,5 +27,5 @@ returns c =
 pub grow-spec : {M : Type 1} → statement M
 grow-spec =
     tie.close
-    (tie.spec (λ c. search needs) (λ c. search needs) (λ c. search needs) (λ c κs. search needs) (λ c. search needs) (λ c. search needs)
-    (λ c. search needs) add-requires-2 (λ c. search needs) (λ c. search needs) (λ c. search needs) add-requires-3 returns)
+    (tie.spec (λ c. omega arith) (λ c. omega arith) (λ c. omega arith) (λ c κs. omega arith) (λ c. omega arith) (λ c. omega arith)
+    (λ c. omega arith) add-requires-2 (λ c. omega arith) (λ c. omega arith) (λ c. omega arith) add-requires-3 returns)

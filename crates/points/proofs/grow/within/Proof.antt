@@ -1,4 +1,5 @@
 -- `points::grow::within` meets its contract: the three tests.
+use native.Mathlib.Omega.{arith}
 use borrow.Author.Needs.{needs}
 use Rattle.points.specs.Grow.{within}
 use Rattle.points.proofs.grow.within.Statement.{statement}
@@ -11,4 +12,4 @@ returns c = search needs
 pub within-spec : {M : Type 1} → statement M
 within-spec =
     tie.close
-    (tie.spec (λ c. search needs) (λ c. search needs) (λ c. search needs) (λ c. search needs) (λ c. search needs) (λ c. search needs) returns)
+    (tie.spec (λ c. omega arith) (λ c. omega arith) (λ c. omega arith) (λ c. omega arith) (λ c. omega arith) (λ c. omega arith) returns)
