@@ -13,17 +13,17 @@ use lib.Seq.{getD-set-other}
 use Rattle.measures.specs.declared.Kind.{Kind}
 use Rattle.sheet.specs.declared.Sheet.{Sheet}
 use Rattle.sheet.specs.Sheets.{noKind, noLine, sheetRefusal}
-use Rattle.layers.specs.declared.stand.Step.{Step}
-use Rattle.layers.specs.declared.fill.LayerFill.{LayerFill}
+use Rattle.stands.specs.declared.stand.Step.{Step}
+use Rattle.layers.specs.declared.LayerFill.{LayerFill}
 use Rattle.layers.specs.Fill.{empty, lineOf, took}
 use Rattle.plans.specs.declared.Plan.{Plan}
 use Rattle.plans.specs.Boxes.{smaller}
 use Rattle.plans.specs.Plans.{refusedPlan}
-use Rattle.layers_run.specs.declared.offers.Offer.{Offer}
-use Rattle.layers_run.specs.Run.{stepBy, offered, runFrom, cond-keeps}
-use Rattle.layers_run.specs.Offers.{bestOffer}
-use Rattle.layers_run.specs.Instances.{total}
-use Rattle.layers_run.specs.Fills.{layerFillOf}
+use Rattle.layer_plans.specs.declared.offers.Offer.{Offer}
+use Rattle.layer_plans.specs.Run.{stepBy, offered, runFrom, cond-keeps}
+use Rattle.layer_plans.specs.Offers.{bestOffer}
+use Rattle.instances.specs.Instances.{total}
+use Rattle.layer_plans.specs.Fills.{layerFillOf}
 use Rattle.layer_laws.specs.Made.{fillTo, number, Made, fill-made}
 
 -- the lines of f are the first lines of g

@@ -22,19 +22,20 @@ use Rattle.sheet.specs.declared.Line.{Line}
 use Rattle.sheet.specs.declared.Sheet.{Sheet}
 use Rattle.sheet.specs.Sheets.{noKind, noLine, sameId, quantityOf}
 use Rattle.sheet.specs.Accepted.{Accepted}
-use Rattle.layers.specs.declared.stand.Step.{Step}
-use Rattle.layers.specs.declared.fill.LayerFill.{LayerFill}
+use Rattle.stands.specs.declared.stand.Step.{Step}
+use Rattle.layers.specs.declared.LayerFill.{LayerFill}
 use Rattle.layers.specs.Fill.{empty, lineOf, pushed, noLines, took}
-use Rattle.layers.specs.Stand.{placeOf}
-use Rattle.layers.specs.Best.{placeBestOf}
-use Rattle.layers.specs.Again.{seedFor, some-turn, best-again}
-use Rattle.layers_run.specs.declared.offers.Offer.{Offer}
-use Rattle.layers_run.specs.declared.offers.Way.the-variants.{Turned}
+use Rattle.stands.specs.Stand.{placeOf}
+use Rattle.stands.specs.Best.{placeBestOf}
+use Rattle.stands.specs.Again.{seedFor, some-turn, best-again}
+use Rattle.layer_plans.specs.declared.offers.Offer.{Offer}
+use Rattle.layer_plans.specs.declared.offers.Way.the-variants.{Turned}
 use Rattle.boxes.specs.Turns.{turnOf, Right, turn-right, by-order}
-use Rattle.layers_run.specs.Run.{offered, runFrom, run-few, cond-keeps}
-use Rattle.layers_run.specs.Offers.{bestOffer, atLeastOne}
-use Rattle.layers_run.specs.Fills.{some-boxes}
-use Rattle.layers_run.specs.Seeds.{seedOf}
+use Rattle.layer_plans.specs.Run.{offered, runFrom, run-few, cond-keeps}
+use Rattle.layer_plans.specs.Offers.{bestOffer}
+use Rattle.fitness.specs.Fitness.{atLeastOne}
+use Rattle.boxes.specs.Orders.{some-boxes}
+use Rattle.instances.specs.Seeds.{seedOf}
 use Rattle.layer_laws.specs.Made.{fillTo}
 
 -- ---- the box of a turn

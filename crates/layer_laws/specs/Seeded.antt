@@ -16,15 +16,17 @@ use Rattle.measures.specs.Orders.{shareOf}
 use Rattle.sheet.specs.declared.Sheet.{Sheet}
 use Rattle.sheet.specs.Sheets.{noKind, sheetRefusal}
 use Rattle.sheet.specs.Accepted.{accepted}
-use Rattle.layers.specs.declared.fill.LayerFill.{LayerFill}
+use Rattle.layers.specs.declared.LayerFill.{LayerFill}
 use Rattle.layers.specs.Fill.{empty}
 use Rattle.boxes.specs.Turns.{turnOf, Right, turn-right}
 use Rattle.plans.specs.declared.Plan.{Plan}
 use Rattle.plans.specs.Rows.{wrote, wrote-at, wrote-length}
-use Rattle.layers_run.specs.Offers.{recordsIn, itemsIn, itemOffer, isStranger, run-same}
-use Rattle.layers_run.specs.Fills.{planFrom, layerFillOf, itemsRefusal, placeItemsOf, some-boxes, boxes-are, smaller-le}
-use Rattle.layers_run.specs.Instances.{total, recordWords, buildRefusal, recordsAfter, three}
-use Rattle.layers_run.specs.Seeds.{seedOf, seedWords, seedRefusal, seedsAfter}
+use Rattle.instances.specs.Records.{recordsIn, isStranger}
+use Rattle.boxes.specs.Orders.{some-boxes, boxes-are}
+use Rattle.layer_plans.specs.Offers.{itemsIn, itemOffer, run-same}
+use Rattle.layer_plans.specs.Fills.{planFrom, layerFillOf, itemsRefusal, placeItemsOf, smaller-le}
+use Rattle.instances.specs.Instances.{total, recordWords, buildRefusal, recordsAfter, three}
+use Rattle.instances.specs.Seeds.{seedOf, seedWords, seedRefusal, seedsAfter}
 use Rattle.layer_laws.specs.Made.{number, fill-plan, fill-made}
 use Rattle.layer_laws.specs.Reproduce.{kindOf, seedIn, seededOffer, run-again}
 

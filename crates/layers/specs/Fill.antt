@@ -15,31 +15,33 @@ use Rattle.measures.specs.declared.Container.{Container}
 use Rattle.measures.specs.declared.Kind.{Kind}
 use Rattle.measures.specs.Faults.{kindFault, containerFault}
 use Rattle.sheet.specs.declared.Line.{Line}
-use Rattle.layers.specs.declared.stand.Stand.{Stand}
-use Rattle.layers.specs.declared.stand.Step.{Step}
-use Rattle.layers.specs.declared.fill.LayerFill.{LayerFill}
-use Rattle.layers.specs.declared.fill.Opening.{Opening}
-use Rattle.layers.specs.declared.fill.Placing.{Placing}
-use Rattle.layers.specs.declared.fill.Count.{Count}
-use Rattle.layers.specs.declared.fill.Ratio.{Ratio}
-use Rattle.layers.specs.declared.fill.LayerPlacementResult.{LayerPlacementResult}
-use Rattle.layers.specs.Spot.{nowhere}
-use Rattle.layers.specs.Stand.{newOf, placeOf, fillOf}
-use Rattle.layers.specs.Best.{placeBestOf}
+pub use Rattle.sheet.specs.Sheets.{blankLine}
+use Rattle.stands.specs.declared.stand.Stand.{Stand}
+use Rattle.stands.specs.declared.stand.Step.{Step}
+use Rattle.layers.specs.declared.LayerFill.{LayerFill}
+use Rattle.layers.specs.declared.Opening.{Opening}
+use Rattle.layers.specs.declared.Placing.{Placing}
+use Rattle.layers.specs.declared.Count.{Count}
+use Rattle.layers.specs.declared.Ratio.{Ratio}
+use Rattle.layers.specs.declared.LayerPlacementResult.{LayerPlacementResult}
+use Rattle.stands.specs.Stand.{newOf, placeOf, fillOf}
+use Rattle.stands.specs.Best.{placeBestOf}
 
--- what a line that holds no box has in it
-abbrev pub blankLine : Line
-blankLine = record { id = 0; instance = 0; orientation = 0; bin = 0; at = nowhere }
-
+-- lines that hold no box
 unfoldable pub noLines : List Line
 noLines = replicate mostBoxes blankLine
 
 abbrev pub empty : Container → LayerFill
 empty b = record { stand = newOf b; count = 0; lines = noLines }
 
+-- boxes that a new fill says it holds: none; but one that comes with a refusal says that it holds more than it can
+abbrev pub countAtFirst : Bool → ℕ
+countAtFirst faulty = cond faulty (mostBoxes + 1) 0
+
 -- `new`: refused by 3 where the container block is
 abbrev pub opened : Container → Opening
-opened b = record { refused = when (containerFault b) 3; fill = empty b }
+opened b =
+    record { refused = when (containerFault b) 3; fill = record { stand = newOf b; count = countAtFirst (containerFault b); lines = noLines } }
 
 -- the line of a box that was placed
 abbrev pub lineOf : Step → ℕ → ℕ → Line
@@ -90,6 +92,15 @@ filled f = cond (overFull f) (record { refused = 2; utilization = none }) (recor
 abbrev pub finished : LayerFill → LayerPlacementResult
 finished f =
     record { refused = counted f .refused; placed = counted f .placed; utilization = filled f .utilization; lines = f .lines }
+
+-- ---- a container that is not refused is empty at first, and into one that is refused no box goes
+pub opened-empty : (b : Container) → containerFault b ≡ false → opened b .fill ≡ empty b
+opened-empty b h = rw h
+
+pub opened-closed : (b : Container) (k : Kind) (instance : ℕ) (s : Step) → containerFault b ≡ true
+    → answered (opened b .fill) k instance s ≡ record { refused = 2; placed = false; next = opened b .fill }
+unfolding answered placeRefusal orElse
+opened-closed b k instance s h = rw h
 
 -- ---- a box that is not refused has room
 pub room : (n : ℕ) (k : Kind) → placeRefusal n k ≡ 0 → n < mostBoxes

@@ -1,17 +1,31 @@
-// The layer placer over a whole order, and over given items (packing_utils.rs, from `build_instances` on).
-mod fitness;
-mod instances;
-mod offers;
-mod run;
+// The layer placer over a whole order, and over given items, into lent words. The plans are those of `layer_plans`.
+ghost use mathlib.Core.Path.{_≡_};
+ghost use lib.ListN.{length};
+ghost use Rattle.plans.specs.Hand.{handedOf, slotsOf};
+ghost use Rattle.layers_run.specs.Fills.{layerFillOf, placeItemsOf};
+pub use layer_plans::layer_fill;
+pub use layer_plans::place_items;
+use plans::Packed;
+use sheet::Sheet;
 
-pub use fitness::Fitness;
-pub use fitness::packing_fitness;
-pub use instances::Built;
-pub use instances::build_instances;
-pub use instances::seed_orientations;
-pub use offers::Offer;
-pub use offers::Way;
-pub use run::layer_fill;
-pub use run::layer_fill_in_order;
-pub use run::layer_place_items;
-pub use run::place_items;
+// The layer fill into lent words, six to a line.
+pub fn layer_fill_in_order(order: Sheet, consider: u64, slots: &mut [u64]) -> Packed
+    ensures { λ r. ⌜ (r ≡ handedOf (layerFillOf order consider) (length (now (slots .entry)))) × (now (slots .exit) ≡ slotsOf (layerFillOf order consider) (now (slots .entry))) ⌝ }
+{
+    let p = layer_fill(order, consider);
+    plans::hand_out(p, slots)
+}
+
+// Items into lent words, six to a line.
+pub fn layer_place_items(
+    order: Sheet,
+    records: &[u32],
+    items: &[u32],
+    consider: u64,
+    slots: &mut [u64],
+) -> Packed
+    ensures { λ r. ⌜ (r ≡ handedOf (placeItemsOf order (now (records .entry)) (now (items .entry)) consider) (length (now (slots .entry)))) × (now (slots .exit) ≡ slotsOf (placeItemsOf order (now (records .entry)) (now (items .entry)) consider) (now (slots .entry))) ⌝ }
+{
+    let p = place_items(order, records, items, consider);
+    plans::hand_out(p, slots)
+}

@@ -7,10 +7,10 @@ use Rattle.floats.specs.Ops.{x, y, z}
 use Rattle.domain.specs.Ranges.{isLength}
 use Rattle.measures.specs.declared.Container.{Container}
 use Rattle.measures.specs.Faults.{containerFault}
-use Rattle.layers.specs.declared.cursor.LayerCursor.{LayerCursor}
-use Rattle.layers.specs.declared.cursor.LayerSpot.{LayerSpot}
-use Rattle.layers.specs.Spot.{over, turnTo, noSpot, spotAt, spotOf}
-use Rattle.layers.specs.Stand.{newOf}
+use Rattle.spots.specs.declared.LayerCursor.{LayerCursor}
+use Rattle.spots.specs.declared.LayerSpot.{LayerSpot}
+use Rattle.spots.specs.Spot.{over, turnTo, noSpot, spotAt, spotOf}
+use Rattle.stands.specs.Stand.{newOf}
 use Rattle.lent_cursor.specs.declared.Asked.{Asked}
 use Rattle.lent_cursor.specs.declared.Answer.{Answer}
 

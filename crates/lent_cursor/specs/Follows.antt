@@ -19,15 +19,15 @@ use Rattle.measures.specs.Orders.{lengthsIn}
 use Rattle.measures.specs.Turned.{lengths-each}
 use Rattle.measures.specs.Faults.{kindFault, containerFault}
 use Rattle.sheet.specs.Accepted.{sound}
-use Rattle.layers.specs.declared.cursor.LayerCursor.{LayerCursor}
-use Rattle.layers.specs.declared.stand.Stand.{Stand}
-use Rattle.layers.specs.declared.stand.Step.{Step}
-use Rattle.layers.specs.declared.fill.LayerFill.{LayerFill}
-use Rattle.layers.specs.declared.fill.Placing.{Placing}
-use Rattle.layers.specs.Spot.{spotOf}
-use Rattle.layers.specs.Stand.{newOf, spotIn, placeOf}
-use Rattle.layers.specs.Best.{placeBestOf}
-use Rattle.layers.specs.Fill.{blankLine, noLines, empty, opened, lineOf, pushed, took, noted, placeRefusal, answered, placed, placedBest, room}
+use Rattle.spots.specs.declared.LayerCursor.{LayerCursor}
+use Rattle.stands.specs.declared.stand.Stand.{Stand}
+use Rattle.stands.specs.declared.stand.Step.{Step}
+use Rattle.layers.specs.declared.LayerFill.{LayerFill}
+use Rattle.layers.specs.declared.Placing.{Placing}
+use Rattle.spots.specs.Spot.{spotOf}
+use Rattle.stands.specs.Stand.{newOf, spotIn, placeOf}
+use Rattle.stands.specs.Best.{placeBestOf}
+use Rattle.layers.specs.Fill.{blankLine, noLines, opened, lineOf, pushed, took, noted, placeRefusal, answered, placed, placedBest, room}
 use Rattle.lent_cursor.specs.declared.Asked.{Asked}
 use Rattle.lent_cursor.specs.declared.Answer.{Answer}
 use Rattle.lent_cursor.specs.Asked.{lengthsFault, askedFault, askedSpot, accepted-spot}
@@ -76,9 +76,9 @@ pub record Fair (f : LayerFill) : Type 0 where
   pub limits-right : f .stand .max ≡ newOf (f .stand .container) .max
   pub long : length (f .lines) ≡ mostBoxes
 
-pub fair-empty : (b : Container) → containerFault b ≡ false → Fair (empty b)
+pub fair-opened : (b : Container) → containerFault b ≡ false → Fair (opened b .fill)
 unfolding noLines
-fair-empty b e = record { container-right = e; limits-right = refl; long = length-replicate mostBoxes blankLine }
+fair-opened b e = record { container-right = e; limits-right = refl; long = length-replicate mostBoxes blankLine }
 
 -- no orientation of an accepted kind has a length out of range
 lengths-right : (k : Kind) (o : ℕ) → kindFault k false ≡ 0 → lengthsFault (lengthsIn k o) ≡ false
@@ -181,4 +181,4 @@ follows-from f (w ∷ ws) fair =
 -- a new fill that was not refused, and a lent cursor that begins where its own does
 pub follows : (b : Container) (ws : List Offer) → opened b .refused ≡ 0
     → cursorAfter (opened b .fill .stand .cursor) (asksOf (opened b .fill) ws) ≡ fillAfter (opened b .fill) ws .stand .cursor
-follows b ws h = follows-from (empty b) ws (fair-empty b (when-none (containerFault b) 2 h))
+follows b ws h = follows-from (opened b .fill) ws (fair-opened b (when-none (containerFault b) 2 h))

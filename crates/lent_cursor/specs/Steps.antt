@@ -3,11 +3,11 @@ use mathlib.Core.Path.{_≡_, refl, ap}
 use mathlib.Core.Bool.{Bool, true, false, cond}
 use Prim.Native.Nat.{ℕ}
 use Rattle.measures.specs.declared.Kind.{Kind}
-use Rattle.layers.specs.declared.cursor.LayerSpot.{LayerSpot}
-use Rattle.layers.specs.declared.stand.Stand.{Stand}
-use Rattle.layers.specs.declared.stand.Step.{Step}
-use Rattle.layers.specs.Stand.{massAllows, spotIn, committed, noStep, settled, turnedOf, placeOf}
-use Rattle.layers.specs.Best.{bestFor, bestStep, placeBestOf}
+use Rattle.spots.specs.declared.LayerSpot.{LayerSpot}
+use Rattle.stands.specs.declared.stand.Stand.{Stand}
+use Rattle.stands.specs.declared.stand.Step.{Step}
+use Rattle.stands.specs.Stand.{massAllows, spotIn, committed, noStep, settled, turnedOf, placeOf}
+use Rattle.stands.specs.Best.{bestFor, bestStep, placeBestOf}
 
 -- the step's answer as a spot: its position, and the cursor of the stand after it
 abbrev pub spotBy : Step → LayerSpot

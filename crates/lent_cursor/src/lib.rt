@@ -1,10 +1,10 @@
 // The layer cursor lent mutably: a box that is placed moves it on, and any other answer leaves it as it was.
 ghost use mathlib.Core.Path.{_≡_};
 ghost use Rattle.lent_cursor.specs.Asked.{lengthsFault, askedFault, askedSpot};
-use layers::LayerCursor;
-use layers::LayerSpot;
-use layers::Stand;
 use measures::Container;
+use spots::LayerCursor;
+use spots::LayerSpot;
+use stands::Stand;
 
 // One box for the cursor: the container that it goes into, and its lengths in the orientation that it is to have.
 pub struct Asked {
@@ -51,7 +51,7 @@ fn asked_spot(c: LayerCursor, a: Asked) -> Answer
     let size = a.size;
     let stand = Stand::new(container);
     let max = stand.max;
-    let spot = layers::spot(container, max, c, size);
+    let spot = spots::spot(container, max, c, size);
     Answer { refused: 0, spot }
 }
 

@@ -38,11 +38,11 @@ use denote.Triple.Clauses.{ensured, lasts}
 use denote.Triple.Table.{entered, cited}
 use denote.Triple.Walked.{says, Stays, stay-ref, stay-none, walkOf, AllGo, goes-none, goes-ref, Walks, ends-at, walked, walk-meets}
 use denote.Exit.{yes}
-use Rattle.layers.specs.declared.cursor.LayerCursor.{LayerCursor}
-use Rattle.layers.proofs.cursor.LayerCursor as T
-use Rattle.layers.proofs.cursor.LayerCursor.Laws as T′
-use Rattle.layers.proofs.cursor.LayerSpot as S
-use Rattle.layers.proofs.cursor.LayerSpot.Laws as S′
+use Rattle.spots.specs.declared.LayerCursor.{LayerCursor}
+use Rattle.spots.proofs.LayerCursor as T
+use Rattle.spots.proofs.LayerCursor.Laws as T′
+use Rattle.spots.proofs.LayerSpot as S
+use Rattle.spots.proofs.LayerSpot.Laws as S′
 use Rattle.lent_cursor.specs.declared.Asked.{Asked}
 use Rattle.lent_cursor.specs.declared.Answer.{Answer}
 use Rattle.lent_cursor.specs.Asked.{askedSpot}

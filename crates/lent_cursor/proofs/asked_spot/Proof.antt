@@ -2,11 +2,11 @@
 use mathlib.Core.Path.{_≡_, sym, _∙_}
 use mathlib.Core.Bool.{false}
 use borrow.Author.Needs.{needs}
-use Rattle.layers.specs.declared.cursor.LayerCursor.{LayerCursor}
-use Rattle.layers.specs.declared.cursor.LayerSpot.{LayerSpot}
-use Rattle.layers.specs.declared.stand.Stand.{Stand}
-use Rattle.layers.specs.Spot.{spotOf}
-use Rattle.layers.specs.Stand.{newOf}
+use Rattle.spots.specs.declared.LayerCursor.{LayerCursor}
+use Rattle.spots.specs.declared.LayerSpot.{LayerSpot}
+use Rattle.stands.specs.declared.stand.Stand.{Stand}
+use Rattle.spots.specs.Spot.{spotOf}
+use Rattle.stands.specs.Stand.{newOf}
 use Rattle.lent_cursor.specs.declared.Asked.{Asked}
 use Rattle.lent_cursor.specs.declared.Answer.{Answer}
 use Rattle.lent_cursor.specs.Asked.{askedFault, askedSpot}

@@ -1,0 +1,2 @@
+-- The packing fitness.
+pub mod Fitness

@@ -1,0 +1,4 @@
+-- The layer placer's runs over an order and over given items.
+pub mod Run
+pub mod Offers
+pub mod Fills

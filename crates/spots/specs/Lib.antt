@@ -1,0 +1,2 @@
+-- The layer cursor, and the spot of one box.
+pub mod Spot
