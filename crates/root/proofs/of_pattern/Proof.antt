@@ -4,7 +4,7 @@ use Prim.Native.Nat.{ℕ, _+_, _-_, _*_, _^_}
 use lib.Ieee.{binary64, ofBits}
 use borrow.Author.Needs.{needs}
 use Rattle.root.specs.Sqrt.{rounded}
-use Rattle.root.proofs.Rounded.{of-scaled}
+use Rattle.root.specs.Rounded.{of-scaled}
 use Rattle.root.proofs.of_pattern.Statement.{statement}
 use Rattle.root.proofs.of_pattern.Tie as tie
 

@@ -10,7 +10,7 @@ use lib.Ieee.{size}
 use lib.Ieee.Digits.{size-lt}
 use borrow.Author.Tests.{lt-ltb, le-ltb}
 use Rattle.root.specs.Root.{rootIn, root, rest, nearRoot}
-use Rattle.root.proofs.Powers.{sq-lt, two-four, four}
+use Rattle.root.specs.Powers.{sq-lt, two-four, four}
 
 abbrev Is : ℕ → ℕ → Type 0
 Is n q = (q * q ≤ n) × (n < (q + 1) * (q + 1))
