@@ -13,7 +13,7 @@ use Rattle.domain.specs.Refusals.{orElse}
 use Rattle.sheet.specs.declared.Sheet.{Sheet}
 use Rattle.sheet.specs.Sheets.{sheetRefusal}
 use Rattle.checker.specs.declared.Checked.{Checked}
-use Rattle.checker.specs.Wrote.{Wrote}
+use Rattle.cells.specs.Wrote.{Wrote}
 use Rattle.checker.specs.Findings.{findings}
 use Rattle.checker.specs.Check.{checkRefusal, countOf, checkedOf, cellsOf}
 

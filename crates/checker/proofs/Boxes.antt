@@ -1,5 +1,5 @@
 -- A table of boxes that is filled row by row.
-use mathlib.Core.Path.{_≡_, refl, sym, _∙_}
+use mathlib.Core.Path.{_≡_, refl, _∙_}
 use mathlib.Core.Logic.{⊎-elim}
 use mathlib.Core.List.{List, [], _∷_}
 use Prim.Native.Nat.{ℕ, zero, suc, _+_, _*_, _<_, _≤_}
@@ -12,7 +12,8 @@ use lib.Seq.{sets, length-sets, getD-set-same, getD-set-other}
 use lib.Ieee.{Float, nan}
 use Rattle.domain.specs.Bounds.{mostLines}
 use Rattle.pairs.specs.declared.Extent.{Extent}
-use Rattle.checker.specs.Tables.{Boxed, corners, extentAt, plainly}
+use Rattle.findings.specs.Rows.{extentAt}
+use Rattle.checker.specs.Tables.{Boxed, corners, plainly}
 
 -- ---- cells after stores in a row
 

@@ -1,26 +1,26 @@
 -- The tables that are read off an accepted sheet hold what the definitions say of it.
-use mathlib.Core.Path.{_≡_, refl, sym, ap, _∙_}
-use mathlib.Core.Bool.{Bool, true, false, cond}
+use mathlib.Core.Path.{_≡_, refl, ap}
+use mathlib.Core.Bool.{Bool, true, false}
 use mathlib.Core.List.{List}
-use Prim.Native.Nat.{ℕ, zero, suc, _+_, _<_, _≤_}
+use Prim.Native.Nat.{ℕ, zero, suc, _<_, _≤_}
 use native.Mathlib.Numerals.{add-one}
 use native.Mathlib.Omega.{arith}
 use borrow.Author.Tests.{ltb-true, lt-ltb, le-ltb}
-use lib.Dec.{eqb, ltb}
+use lib.Dec.{ltb}
 use lib.ListN.{getD}
 use lib.Ieee.{Float}
 use Rattle.domain.specs.Bounds.{mostKinds, mostLines, mostUnplaced}
-use Rattle.domain.specs.Refusals.{anyBelow}
 use Rattle.measures.specs.declared.Kind.{Kind}
 use Rattle.sheet.specs.declared.Sheet.{Sheet}
-use Rattle.sheet.specs.declared.Line.{Line}
-use Rattle.sheet.specs.Sheets.{kindAt, lineAt, noKind}
+use Rattle.sheet.specs.Sheets.{lineAt, noKind}
 use Rattle.sheet.specs.Accepted.{Few, Accepted}
 use Rattle.sheet.specs.Ids.{any-same}
 use Rattle.unplaced.specs.Short.{isShort, namesOf, named}
 use Rattle.unplaced.specs.Left.{shortKind, flagsOf, shortsOf}
 use Rattle.checker.specs.Lines.{kindBelow, kindOf, known, kindFor, sameAs, again, short, massBelow}
-use Rattle.checker.specs.Tables.{Holds, idIn, placeBelow, placeOf, within, kindIn, sameIn, againIn, added, massIn}
+use Rattle.cells.specs.Boxes.{within}
+use Rattle.findings.specs.Rows.{kindIn}
+use Rattle.checker.specs.Tables.{Holds, idIn, placeBelow, placeOf, sameIn, againIn, added, massIn}
 use Rattle.checker.specs.Tabled.{kindNamed, kindListed}
 use Rattle.checker.proofs.Held.{held-none, held-more, held-same}
 use Rattle.checker.proofs.Packed.{packed-distinct}

@@ -1,8 +1,6 @@
 -- What the proofs of this crate share.
-pub mod Writes
 pub mod Held
 pub mod Boxes
-pub mod Apart
 pub mod ById
 pub mod Packed
 pub mod Gathered

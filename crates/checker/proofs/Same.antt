@@ -1,14 +1,12 @@
 -- The findings over the tables are the sheet's own.
-use mathlib.Core.Path.{_≡_, refl, sym, ap, _∙_}
+use mathlib.Core.Path.{_≡_, refl, ap, _∙_}
 use mathlib.Core.Bool.{Bool, true, false, _&&_}
 use mathlib.Core.List.{List, _++_}
-use Prim.Native.Nat.{ℕ, _<_, _≤_}
+use Prim.Native.Nat.{ℕ, _<_}
 use native.Mathlib.Omega.{arith}
-use borrow.Author.Tests.{ltb-true}
+use borrow.Author.Tests.{ltb-true, le-ltb}
 use lib.Dec.{ltb}
-use lib.ListN.{getD}
 use Rattle.domain.specs.Bounds.{mostKinds, mostLines, mostUnplaced}
-use Rattle.domain.specs.Refusals.{anyBelow}
 use Rattle.domain.specs.Laws.{and-left, and-right}
 use Rattle.measures.specs.declared.Kind.{Kind}
 use Rattle.measures.specs.declared.Container.{Container}
@@ -17,16 +15,17 @@ use Rattle.pairs.specs.declared.Extent.{Extent}
 use Rattle.pairs.specs.Pair.{verdictOf}
 use Rattle.sheet.specs.declared.Sheet.{Sheet}
 use Rattle.sheet.specs.declared.Line.{Line}
-use Rattle.sheet.specs.Sheets.{kindAt, lineAt, unplacedAt}
+use Rattle.sheet.specs.Sheets.{lineAt, unplacedAt}
 use Rattle.sheet.specs.Accepted.{Few}
-use Rattle.checker.specs.declared.table.Table.{Table}
-use Rattle.checker.specs.Words.{onlyIf, allBelow}
-use Rattle.checker.specs.Lines.{kindOf, isKnown, known, kindFor, again, counted, repeats, short, isListed, boxOf, tolerance, mass}
+use Rattle.findings.specs.declared.Table.{Table}
+use Rattle.cells.specs.Words.{onlyIf, allBelow}
+use Rattle.checker.specs.Lines.{kindOf, isKnown, known, kindFor, again, counted, short, boxOf, tolerance, mass}
 use Rattle.checker.specs.Findings.{nameWords, repeatFinding, placeWords, lineFindings, verdictWords, verdictOn, pairWords, pairFinding, pairsFrom, massWords, massFinding, missing, wrongWords, wronglyListed, findings}
-use Rattle.checker.specs.Tables.{kindIn, extentAt, plainly, boxIn, within}
-use Rattle.checker.specs.Tabled.{Tabled, kindNamed, kindListed}
-use Rattle.checker.specs.Runs.{lineWords, lineIn, pairIn, pairsIn, missingIn, wrongIn}
-use Rattle.checker.proofs.Writes.{all-same}
+use Rattle.findings.specs.Rows.{kindIn, extentAt}
+use Rattle.checker.specs.Tables.{plainly}
+use Rattle.checker.specs.Tabled.{Tabled, kindListed}
+use Rattle.findings.specs.Runs.{lineWords, lineIn, pairIn, pairsIn, missingIn, wrongIn, findingsIn}
+use Rattle.cells.specs.Writes.{all-same}
 use Rattle.checker.proofs.Gathered.{within-few, kind-held, known-held}
 
 -- words that are there only where a test holds need be the same only there
@@ -84,7 +83,7 @@ module _ (s : Sheet) (f : Few (s .many)) (t : Table) (h : Tabled s t) where
       rw (within-few (kindOf s (unplacedAt s i)) (omega (arith, f .kinds))) (h .short-held .cells (kindOf s (unplacedAt s i)) z)))
 
   -- all of them
-  pub findings-same :
+  findings-same :
       allBelow (lineIn (s .container) (s .lines) (s .kinds) (s .many .kinds) (t .which) (t .again)) (s .many .lines)
       ++ (allBelow (pairsIn (t .boxes) (t .which) (s .many .kinds) (s .many .lines) (s .container .spacing) (tolerance s)) (s .many .lines)
       ++ (massWords (t .mass) (s .container .limit) (tolerance s)
@@ -99,3 +98,14 @@ module _ (s : Sheet) (f : Few (s .many)) (t : Table) (h : Tabled s t) where
       (rw (all-same (missingIn (t .ids) (t .short) (s .unplaced) (s .many .unplaced)) (missing s) (s .many .kinds) missing-same)
       (rw (all-same (wrongIn (t .listed) (t .short) (s .many .kinds) (s .unplaced)) (wronglyListed s) (s .many .unplaced) listed-same)
       (rw (h .mass-is)))))
+
+  -- so what is listed by the tables is what the sheet gets
+  pub listed-are : findingsIn s t ≡ findings s
+  unfolding findingsIn
+  listed-are =
+      rw (
+        le-ltb mostKinds (s .many .kinds) (f .kinds),
+        le-ltb mostLines (s .many .lines) (f .lines),
+        le-ltb mostUnplaced (s .many .unplaced) (f .unplaced),
+      )
+      findings-same

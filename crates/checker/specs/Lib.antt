@@ -3,7 +3,5 @@ pub mod Words
 pub mod Lines
 pub mod Findings
 pub mod Check
-pub mod Wrote
 pub mod Tables
 pub mod Tabled
-pub mod Runs

@@ -1,19 +1,20 @@
 -- What the checker reads off a sheet's lines: the kind that a line names, the box that it places, which lines repeat one, and how many copies are packed.
 use Prim.Native.Nat.{ℕ, zero, suc}
 use mathlib.Core.Bool.{Bool, not, _&&_, cond}
-use mathlib.Core.List.{List, [], _∷_}
+use mathlib.Core.List.{List}
 use lib.Dec.{eqb, ltb}
 use lib.ListN.{getD}
 use lib.Ieee.{Float}
-use Rattle.floats.specs.Ops.{_⊕_, none, x, y, z}
+use Rattle.floats.specs.Ops.{_⊕_, none}
 use Rattle.domain.specs.Refusals.{when, anyBelow, sumBelow}
 use Rattle.measures.specs.declared.Kind.{Kind}
-use Rattle.measures.specs.Orders.{lengthsIn}
 use Rattle.sheet.specs.declared.Line.{Line}
 use Rattle.sheet.specs.declared.Sheet.{Sheet}
 use Rattle.sheet.specs.Sheets.{noKind, noLine, kindAt, lineAt}
-use Rattle.pairs.specs.declared.Extent.{Extent}
 use Rattle.pairs.specs.Tolerance.{toleranceOf}
+pub use Rattle.cells.specs.Boxes.{boxOf}
+pub use Rattle.findings.specs.Finding.{inRange}
+unfoldable pub use Rattle.findings.specs.Finding.{isListed}
 
 -- ---- kinds by id (check.rs: `by_id`)
 
@@ -38,10 +39,6 @@ unfoldable pub kindFor : Sheet → Line → Kind
 kindFor s l = kindAt s (kindOf s (l .id))
 
 -- ---- instances (check.rs: `seen` and `packed`)
-
--- 01: "instance out of range" is the contrary
-abbrev pub inRange : Line → Kind → Bool
-inRange l k = ltb (l .instance) (k .quantity)
 
 -- two lines name the same copy
 abbrev pub sameBox : Line → Line → Bool
@@ -75,20 +72,6 @@ packed s k = sumBelow (packs s k) (s .many .lines)
 -- fewer than there are
 unfoldable pub short : Sheet → ℕ → Bool
 short s k = ltb (packed s k) (kindAt s k .quantity)
-
--- ---- the unplaced list
-
--- unplaced id j is this one
-unfoldable pub isListed : List ℕ → ℕ → ℕ → Bool
-isListed ids id j = eqb (getD ids j 0) id
-
--- ---- boxes
-
--- check.rs: `min` and `min + geom.dimensions_for_orientation(orientation)`
-abbrev pub boxOf : Line → Kind → Extent
-boxOf l k =
-    let size = lengthsIn k (l .orientation) in
-    record { min = l .at; max = (x (l .at) ⊕ x size) ∷ (y (l .at) ⊕ y size) ∷ (z (l .at) ⊕ z size) ∷ [] }
 
 -- the tolerance T
 abbrev pub tolerance : Sheet → Float

@@ -5,7 +5,7 @@ use mathlib.Core.Bool.{false}
 use Rattle.domain.specs.Bounds.{mostKinds, mostLines, mostUnplaced}
 use Rattle.sheet.specs.declared.Sheet.{Sheet}
 use Rattle.sheet.specs.Sheets.{lineAt, unplacedAt}
-use Rattle.checker.specs.declared.table.Table.{Table}
+use Rattle.findings.specs.declared.Table.{Table}
 use Rattle.checker.specs.Lines.{kindOf, again, short, mass}
 use Rattle.checker.specs.Tables.{Holds, Boxed, idIn, boxIn}
 

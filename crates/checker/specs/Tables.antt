@@ -1,19 +1,21 @@
 -- What is read off a sheet once, before its findings are listed: tables by line, over the sheet's own lists.
-use Prim.Native.Nat.{ℕ, zero, suc, _+_, _*_, _<_}
+use Prim.Native.Nat.{ℕ, zero, suc, _*_, _<_}
 use mathlib.Core.Path.{_≡_}
 use mathlib.Core.Bool.{Bool, _&&_, cond}
 use mathlib.Core.List.{List, [], _∷_}
 use lib.Dec.{eqb, ltb}
 use lib.ListN.{length, getD}
-use lib.Ieee.{Float, nan}
+use lib.Ieee.{Float}
 use Rattle.floats.specs.Ops.{_⊕_, none, x, y, z}
-use Rattle.domain.specs.Bounds.{mostKinds, mostLines}
+use Rattle.domain.specs.Bounds.{mostLines}
 use Rattle.domain.specs.Refusals.{anyBelow}
 use Rattle.measures.specs.declared.Kind.{Kind}
 use Rattle.sheet.specs.declared.Line.{Line}
 use Rattle.sheet.specs.Sheets.{noKind, noLine}
 use Rattle.pairs.specs.declared.Extent.{Extent}
-use Rattle.checker.specs.Lines.{boxOf, massOf}
+use Rattle.cells.specs.Boxes.{boxOf}
+use Rattle.findings.specs.Rows.{kindIn, extentAt}
+use Rattle.checker.specs.Lines.{massOf}
 
 -- a table of m cells whose first n are g 0, g 1, ..
 pub record Holds {A : Type 0} (m : ℕ) (d : A) (g : ℕ → A) (n : ℕ) (r : List A) : Type 0 where
@@ -39,14 +41,6 @@ placeBelow ids id (suc n) = later (placeBelow ids id n) n (eqb (getD ids n 0) id
 unfoldable pub placeOf : List ℕ → ℕ → List ℕ → ℕ → ℕ
 placeOf ids n list i = placeBelow ids (getD list i 0) n
 
--- a place that a table of kinds has
-abbrev pub within : ℕ → ℕ
-within k = cond (ltb k mostKinds) k 63
-
--- the kind that line i names, by the table of places
-abbrev pub kindIn : List Kind → List ℕ → ℕ → Kind
-kindIn kinds which i = getD kinds (within (getD which i 0)) noKind
-
 -- ---- repeats
 
 -- lines i and j name the same copy
@@ -60,14 +54,6 @@ againIn ids instances i = anyBelow (sameIn ids instances i) i
 
 abbrev pub corners : Extent → List Float
 corners e = x (e .min) ∷ y (e .min) ∷ z (e .min) ∷ x (e .max) ∷ y (e .max) ∷ z (e .max) ∷ []
-
--- the box in row i
-abbrev pub extentAt : List Float → ℕ → Extent
-extentAt c i =
-    record {
-      min = getD c (i * 6) nan ∷ getD c (i * 6 + 1) nan ∷ getD c (i * 6 + 2) nan ∷ [];
-      max = getD c (i * 6 + 3) nan ∷ getD c (i * 6 + 4) nan ∷ getD c (i * 6 + 5) nan ∷ [];
-    }
 
 -- a box in that form
 abbrev pub plainly : Extent → Extent

@@ -7,27 +7,14 @@ ghost use lib.Seq.{sets};
 ghost use Rattle.domain.specs.Bounds.{mostKinds, mostLines};
 ghost use Rattle.sheet.specs.Sheets.{sheetRefusal};
 ghost use Rattle.checker.specs.Tabled.{Tabled};
-ghost use Rattle.checker.specs.Lines.{boxOf, massOf};
-ghost use Rattle.checker.specs.Tables.{Holds, Boxed, idIn, later, placeBelow, placeOf, within, againIn, corners, boxIn, added, massIn};
+ghost use Rattle.checker.specs.Lines.{massOf};
+ghost use Rattle.checker.specs.Tables.{Holds, Boxed, idIn, later, placeBelow, placeOf, againIn, corners, boxIn, added, massIn};
+use findings::CORNERS;
+use findings::Table;
 use measures::Kind;
 use pairs::Extent;
 use sheet::Line;
 use sheet::Sheet;
-
-// Cells of a table of boxes: six a line.
-pub(crate) const CORNERS: usize = 1536;
-
-// What is read off a sheet: the ids of its kinds; by line the place of its kind, whether an earlier line names the same copy, and
-// the box; the mass of all lines; by unplaced id the place of its kind; and which kinds are short.
-pub(crate) struct Table {
-    pub(crate) ids: [u32; domain::MOST_KINDS],
-    pub(crate) which: [usize; domain::MOST_LINES],
-    pub(crate) again: [bool; domain::MOST_LINES],
-    pub(crate) boxes: [f64; CORNERS],
-    pub(crate) mass: f64,
-    pub(crate) listed: [usize; domain::MOST_UNPLACED],
-    pub(crate) short: [bool; domain::MOST_KINDS],
-}
 
 fn later(r: usize, k: usize, hit: bool) -> usize
     requires { ⌜ k < mostKinds ⌝ }
@@ -125,26 +112,6 @@ pub(crate) fn again_of(
     again
 }
 
-// A place that a table of kinds has.
-pub(crate) fn within(k: usize) -> usize
-    ensures { λ r. ⌜ (r ≡ within k) × (r < mostKinds) ⌝ }
-{
-    if k < domain::MOST_KINDS {
-        return k;
-    }
-    63
-}
-
-// Where a line of this kind puts its box.
-pub(crate) fn box_of(l: Line, k: Kind) -> Extent
-    ensures { λ r. ⌜ r ≡ boxOf l k ⌝ }
-{
-    let min = l.at;
-    let size = measures::dimensions_for_orientation(k, l.orientation);
-    let max = [min[0] + size[0], min[1] + size[1], min[2] + size[2]];
-    Extent { min, max }
-}
-
 fn put_box(c: &mut [f64; CORNERS], i: usize, e: Extent)
     requires { ⌜ i < mostLines ⌝ }
     ensures { λ _. ⌜ now (c .exit) ≡ sets (now (c .entry)) (i * 6) (corners e) ⌝ }
@@ -173,9 +140,9 @@ pub(crate) fn boxes_of(
     let mut i = 0;
     while i < n {
         let l = lines[i];
-        let w = within(which[i]);
+        let w = cells::within(which[i]);
         let k = kinds[w];
-        put_box(&mut c, i, box_of(l, k));
+        put_box(&mut c, i, cells::box_of(l, k));
         i += 1;
     }
     c
@@ -214,7 +181,7 @@ pub(crate) fn mass_of(
     let mut sum = 0.0;
     let mut i = 0;
     while i < n {
-        let w = within(which[i]);
+        let w = cells::within(which[i]);
         let k = kinds[w];
         sum = added(sum, which[i] < m, k);
         i += 1;

@@ -120,7 +120,7 @@ pair-aside s i l j m = go (known s l && known s m)
     go true = verdict-aside i j (s .container .spacing) (verdictOn s l m)
     go false = unfold change in refl
 
--- ---- "whichever of the two comes first"
+-- ---- whichever of the two comes first
 
 pair-turned : (s : Sheet) → Accepted s → (l m : Line) → lineFault l ≡ 0 → lineFault m ≡ 0 → pairWords s 0 l 0 m ≡ pairWords s 0 m 0 l
 unfolding pairWords verdictOn

@@ -1,0 +1,20 @@
+-- Words written one after the other into lent cells, from a place on. A word past the end changes no cell, so the same run counts and writes.
+use mathlib.Core.Path.{_≡_}
+use Prim.Native.Nat.{ℕ, _+_, _<_, _≤_}
+use mathlib.Core.List.{List, []}
+use lib.ListN.{length}
+use lib.Seq.{sets}
+
+-- no finding begins past so many cells
+abbrev pub mostCells : ℕ
+mostCells = 100000000
+
+-- r and o′ are the place and the cells after the words ws were written to the cells o from `at`
+pub record Wrote (o : List ℕ) (at : ℕ) (ws : List ℕ) (r : ℕ) (o′ : List ℕ) : Type 0 where
+  pub next : r ≡ at + length ws
+  pub cells : o′ ≡ sets o at ws
+
+-- the same for one finding, of which none begins past the most cells
+pub record Given (o : List ℕ) (at : ℕ) (ws : List ℕ) (r : ℕ) (o′ : List ℕ) : Type 0 where
+  pub within : at < mostCells → Wrote o at ws r o′
+  pub past : mostCells ≤ at → Wrote o at [] r o′
