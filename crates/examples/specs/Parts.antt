@@ -16,7 +16,7 @@ use Rattle.point_set.specs.declared.ExtremePointSet.{ExtremePointSet}
 use Rattle.point_set.specs.Fresh.{freshOf}
 use Rattle.points.specs.declared.Tried.{Tried}
 use Rattle.points.specs.Place.{triedOf}
-use Rattle.layers.specs.declared.fill.Placing.{Placing}
+use Rattle.layers.specs.declared.Placing.{Placing}
 use Rattle.layers.specs.Fill.{opened, placedBest}
 use Rattle.pairs.specs.declared.Extent.{Extent}
 

@@ -18,11 +18,12 @@ use Rattle.points.specs.declared.Answer.the-variants.{Stands, NoRoom}
 use Rattle.points.specs.All.{all}
 use Rattle.points.specs.Fit.{inside as fitsInside, apart, separated, fitsAt}
 use Rattle.points.specs.Choose.{sooner, takes, stepBy, scanBy, bestOf as leastOf}
-use Rattle.points.specs.Grow.{within, buries, free, valid, cornersOf, countWith, pointsWith, stockOf, putBox, settled as grownBy}
-use Rattle.points.specs.Place.{overCounts, refusalOf, placedBy, triedOf}
-use Rattle.layers.specs.Spot.{newRow, newLayer, spotOf}
-use Rattle.layers.specs.Stand.{settled}
-use Rattle.layers.specs.Best.{better, bestOf, placeBestOf}
+use Rattle.points.specs.Grow.{within, buries, free, valid, cornersOf, countWith, pointsWith, stockBy, putBox, settled as grownBy}
+use Rattle.point_set.specs.Reads.{overCounts}
+use Rattle.points.specs.Place.{refusalOf, placedBy, triedOf}
+use Rattle.spots.specs.Spot.{newRow, newLayer, spotOf}
+use Rattle.stands.specs.Stand.{settled}
+use Rattle.stands.specs.Best.{better, bestOf, placeBestOf}
 use Rattle.layers.specs.Fill.{blankLine, noLines, opened, took, placeRefusal, answered, placedBest}
 use Rattle.root.specs.Sqrt.{sqrtOf}
 use Rattle.pairs.specs.declared.Verdict.the-variants.{TooClose}
@@ -93,7 +94,7 @@ pub record Table : Type 0 where
   pub worked-findings : findings worked ≡ 3 ∷ 1 ∷ 7 ∷ 0 ∷ 0 ∷ 8 ∷ 0 ∷ 1 ∷ 0x3FE0000000000000 ∷ 0x3FF0000000000000 ∷ 10 ∷ 7 ∷ 0 ∷ 0 ∷ 0 ∷ []
 
 pub table : Table
-unfolding startOf triedOf placedBy refusalOf overCounts kindFault containerFault lengthsIn grownBy stockOf putBox cornersOf valid free buries within countWith pointsWith leastOf scanBy stepBy takes sooner fitsAt separated fitsInside apart three put3 all answered placeRefusal took noLines placeBestOf bestOf better settled spotOf newRow newLayer findings lineFindings nameWords repeatWords repeatFinding inside placeWords verdictWords verdictOn pairWords pairFinding pairsFrom massWords massFinding lostWords missing wrongWords wronglyListed kindBelow known kindFor sameAs again counted packs packed short isListed massBelow allBelow anyBelow sumBelow toleranceOf verdictAt distanceOf sqrtOf orElse lt le eq add sub mul sum round units odd size ofBits toBits ofFields neg span climb trailingZeros
+unfolding startOf triedOf placedBy refusalOf overCounts kindFault containerFault lengthsIn grownBy stockBy putBox cornersOf valid free buries within countWith pointsWith leastOf scanBy stepBy takes sooner fitsAt separated fitsInside apart three put3 all answered placeRefusal took noLines placeBestOf bestOf better settled spotOf newRow newLayer findings lineFindings nameWords repeatWords repeatFinding inside placeWords verdictWords verdictOn pairWords pairFinding pairsFrom massWords massFinding lostWords missing wrongWords wronglyListed kindBelow known kindFor sameAs again counted packs packed short isListed massBelow allBelow anyBelow sumBelow toleranceOf verdictAt distanceOf sqrtOf orElse lt le eq add sub mul sum round units odd size ofBits toBits ofFields neg span climb trailingZeros
 table =
     record {
       p1 = (refl, refl);

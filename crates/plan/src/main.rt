@@ -29,8 +29,14 @@ fn put_first(bytes: &[u8], n: usize) {
 }
 
 fn write(order: Sheet, p: Plan) {
+    let planned = plans::planned_sheet(order, p);
+    if planned.refused != 0 {
+        refuse(planned.refused);
+        return;
+    }
+    let s = planned.sheet;
     let mut bytes = [0u8; BYTES];
-    let w = load_file::write_sheet(plans::planned_sheet(order, p), &mut bytes);
+    let w = load_file::write_sheet(s, &mut bytes);
     if w.refused != 0 {
         refuse(w.refused);
         return;

@@ -25,7 +25,7 @@ use Rattle.checker.specs.Words.{onlyIf, allBelow}
 use Rattle.checker.specs.Lines.{kindOf, isKnown, known, kindFor, inRange, repeats, short, isListed, boxOf, tolerance, mass}
 use Rattle.checker.specs.Findings.{inside, nameWords, repeatWords, placeWords, repeatFinding, lineFindings, verdictWords, verdictOn, pairWords, pairFinding, pairsFrom, massWords, massFinding, lostWords, missing, wrongWords, wronglyListed, findings}
 use Rattle.checker.specs.Check.{countOf, checkedOf}
-use Rattle.load_file.specs.declared.Written.{Written}
+use Rattle.write_file.specs.declared.Written.{Written}
 use Rattle.load_file.specs.Writing.{fileLength, writtenOf}
 
 only-few : (t : Bool) (ws : List ℕ) (b : ℕ) → length ws ≤ b → length (onlyIf t ws) ≤ b

@@ -7,11 +7,11 @@ use Rattle.fill.specs.Fill.{fillOf}
 use Rattle.load_file.specs.Reading.{readOf}
 use Rattle.waikurpeho.specs.Answer.{answerOf}
 
--- "the count is 0"
+-- the count is 0: the fill can pass 32 bits, so it goes into a lent word of its own
 unfoldable pub fillAnswer : List ℕ → ℕ
 fillAnswer file = cond (eqb (readOf file .refused) 0) (answerOf (fillOf (readOf file .sheet) .refused) 0) (answerOf (readOf file .refused) 0)
 
--- the fill per thousand "is stored in `fill`", where it is not refused
+-- that word afterwards: the fill per thousand, or what it held where the call is refused
 unfoldable pub fillAfter : List ℕ → ℕ → ℕ
 fillAfter file old =
     cond (eqb (readOf file .refused) 0)

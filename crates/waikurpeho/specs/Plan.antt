@@ -7,30 +7,31 @@ use lib.ListN.{length, set}
 use lib.Ieee.{binary64, toBits}
 use Rattle.sheet.specs.declared.Sheet.{Sheet}
 use Rattle.plans.specs.declared.Plan.{Plan}
-use Rattle.plans.specs.Planned.{plannedSheet}
+use Rattle.plans.specs.declared.PlanSheet.{PlanSheet}
+use Rattle.plans.specs.Planned.{sheetFrom}
 use Rattle.load_file.specs.Reading.{readOf}
 use Rattle.load_file.specs.Writing.{writtenOf, bytesAfter}
 use Rattle.waikurpeho.specs.Answer.{answerOf}
 
--- the planned sheet's length, or the order's refusal, or 6 and the length needed
+-- the planned sheet's length, or the plan's refusal, or 6 and the length needed
 unfoldable pub planAnswer : Sheet → Plan → ℕ → ℕ
 planAnswer order plan room =
-    cond (eqb (plan .refused) 0)
-    (answerOf (writtenOf (plannedSheet order plan) room .refused) (writtenOf (plannedSheet order plan) room .length))
-    (answerOf (plan .refused) 0)
+    let p = sheetFrom order plan in
+    cond (eqb (p .refused) 0) (answerOf (writtenOf (p .sheet) room .refused) (writtenOf (p .sheet) room .length)) (answerOf (p .refused) 0)
 
 -- the lent bytes afterwards
 unfoldable pub planBytes : Sheet → Plan → List ℕ → List ℕ
-planBytes order plan out = cond (eqb (plan .refused) 0) (bytesAfter (plannedSheet order plan) out) out
+planBytes order plan out = let p = sheetFrom order plan in cond (eqb (p .refused) 0) (bytesAfter (p .sheet) out) out
 
--- "figures are the boxes considered and the utilization's bits"
+-- the figures are the boxes considered and the utilization's bits
 unfoldable pub planFigures : Sheet → Plan → ℕ → List ℕ → List ℕ
 planFigures order plan room old =
-    cond (eqb (plan .refused) 0)
-    (cond (eqb (writtenOf (plannedSheet order plan) room .refused) 0) (set (set old 0 (plan .considered)) 1 (toBits binary64 (plan .utilization))) old)
+    let p = sheetFrom order plan in
+    cond (eqb (p .refused) 0)
+    (cond (eqb (writtenOf (p .sheet) room .refused) 0) (set (set old 0 (plan .considered)) 1 (toBits binary64 (plan .utilization))) old)
     old
 
--- ---- the same of an order in a load file, "refused whole as the reading call refuses it", for either placer
+-- ---- the same of an order in a load file, which is refused whole as reading it is, for either placer
 abbrev Planner : Type 0
 Planner = Sheet → ℕ → Plan
 

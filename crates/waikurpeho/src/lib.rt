@@ -39,10 +39,11 @@ pub extern "C" fn wk_check(sheet: &[u8], findings: &mut [u64]) -> u64
 fn write_plan(order: Sheet, plan: Plan, sheet: &mut [u8], figures: &mut [u64; 2]) -> u64
     ensures { λ r. ⌜ (r ≡ planAnswer order plan (length (now (sheet .entry)))) × (now (sheet .exit) ≡ planBytes order plan (now (sheet .entry))) × (now (figures .exit) ≡ planFigures order plan (length (now (sheet .entry))) (now (figures .entry))) ⌝ }
 {
-    if plan.refused != 0 {
-        return answer(plan.refused, 0);
+    let planned = plans::planned_sheet(order, plan);
+    if planned.refused != 0 {
+        return answer(planned.refused, 0);
     }
-    let s = plans::planned_sheet(order, plan);
+    let s = planned.sheet;
     let w = load_file::write_sheet(s, sheet);
     if w.refused != 0 {
         return answer(w.refused, w.length);

@@ -1,0 +1,9 @@
+-- What holds of a finished plan beyond its contract.
+pub mod Top
+pub mod Spots
+pub mod Layers
+pub mod Points
+pub mod Accepted
+pub mod Boundary
+pub mod Listed
+pub mod NoneLost

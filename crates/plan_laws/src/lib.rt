@@ -1,0 +1,1 @@
+// Theorems on finished plans, in specs/: the planned sheet of an accepted order is accepted, for both placers.
