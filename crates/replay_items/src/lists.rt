@@ -1,7 +1,7 @@
 // Instance lists of orders, and the orientations that a sheet's lines give to a list, with as many numbers lent as they need,
 // with more, and with one less.
 use crate::words;
-use layers_run::Built;
+use instances::Built;
 use sheet::Sheet;
 
 // Whether a call with so many numbers lent is answered as the count at `at` asks, behind which stand n numbers: they are handed
@@ -19,9 +19,9 @@ fn is_answer(b: &[u8], at: usize, n: usize, got: Built, list: &[u32], room: usiz
 // The instance list with n numbers lent.
 fn build_in(order: Sheet, out: &mut [u32], n: usize) -> Built {
     if n <= out.len() {
-        return layers_run::build_instances(order, &mut out[..n]);
+        return instances::build_instances(order, &mut out[..n]);
     }
-    layers_run::build_instances(order, out)
+    instances::build_instances(order, out)
 }
 
 fn built_with(b: &[u8], at: usize, n: usize, order: Sheet, room: usize) -> bool {
@@ -44,9 +44,9 @@ pub(crate) fn same_instances(b: &[u8]) -> bool {
 // The orientations with n numbers lent.
 fn seed_in(s: Sheet, records: &[u32], out: &mut [u32], n: usize) -> Built {
     if n <= out.len() {
-        return layers_run::seed_orientations(s, records, &mut out[..n]);
+        return instances::seed_orientations(s, records, &mut out[..n]);
     }
-    layers_run::seed_orientations(s, records, out)
+    instances::seed_orientations(s, records, out)
 }
 
 fn seeded_with(b: &[u8], at: usize, n: usize, s: Sheet, records: &[u32], room: usize) -> bool {

@@ -7,7 +7,7 @@ mod words; // words.rt: lists of numbers in the sample
 fn same_fitness(b: &[u8]) -> bool {
     let placed = vectors::size(vectors::u32_at(b, 0));
     let total = vectors::size(vectors::u32_at(b, 4));
-    let f = layers_run::packing_fitness(placed, total, vectors::f64_at(b, 8));
+    let f = fitness::packing_fitness(placed, total, vectors::f64_at(b, 8));
     let refused = vectors::u32_at(b, 16) == f.refused;
     (b.len() == 28) & (refused & vectors::same_float(b, 20, f.value))
 }

@@ -1,6 +1,6 @@
 // Cursors in the sample, and the spot that a box gets at any of them.
-use layers::LayerCursor;
-use layers::Stand;
+use spots::LayerCursor;
+use stands::Stand;
 
 // The cursor at `at`: x, y, z, row depth and layer height.
 fn cursor_at(b: &[u8], at: usize) -> LayerCursor {
@@ -31,7 +31,7 @@ pub(crate) fn same_spot(b: &[u8]) -> bool {
     let stand = Stand::new(container);
     let max = stand.max;
     let size = vectors::three_at(b, vectors::past(at, 40));
-    let spot = layers::spot(container, max, cursor_at(b, at), size);
+    let spot = spots::spot(container, max, cursor_at(b, at), size);
     let place = spot.at;
     let next = spot.next;
     let expected = vectors::u32_at(b, vectors::past(at, 64));

@@ -16,13 +16,14 @@ struct Progress {
 // Whether the box placed last is this one.
 fn same_last(b: &[u8], at: usize, set: ExtremePointSet, id: u32, instance: u32) -> bool {
     let n = point_set::placed_count(set);
-    if n == 0 {
+    if n.count == 0 {
         return false;
     }
-    let last = point_set::placed_box(set, n - 1);
+    let found = point_set::placed_box(set, n.count - 1);
+    let last = found.placed;
     let position = last.position;
     let who = (last.id == id) & (last.instance == instance);
-    who & vectors::same_three(b, at, position)
+    found.found & (who & vectors::same_three(b, at, position))
 }
 
 // Whether the answer is what is expected at `at`.
@@ -31,7 +32,8 @@ fn same_answer(b: &[u8], at: usize, tried: Tried, id: u32, instance: u32) -> boo
     let v = tried.at;
     let took = vectors::u32_at(b, at);
     let place = vectors::past(at, 4);
-    let count = vectors::size(vectors::u32_at(b, vectors::past(at, 28))) == point_set::len(next);
+    let live = point_set::len(next);
+    let count = vectors::size(vectors::u32_at(b, vectors::past(at, 28))) == live.count;
     let there = vectors::same_three(b, place, v);
     let answer = tried.answer;
     match answer {
@@ -81,15 +83,19 @@ fn run(b: &[u8], s: Sheet, at: usize) -> Progress {
 
 // What is expected after all calls, from `at` on.
 fn same_end(b: &[u8], at: usize, set: ExtremePointSet) -> bool {
-    let placed = vectors::size(vectors::u32_at(b, at)) == point_set::placed_count(set);
-    let volume = vectors::same_float(b, vectors::past(at, 4), point_set::total_volume(set));
-    let mass = vectors::same_float(b, vectors::past(at, 12), point_set::total_mass(set));
-    let n = vectors::size(vectors::u32_at(b, vectors::past(at, 20)));
+    let boxes = point_set::placed_count(set);
+    let volume = point_set::total_volume(set);
+    let mass = point_set::total_mass(set);
     let live = point_set::len(set);
+    let empty = point_set::is_empty(set);
+    let n = vectors::size(vectors::u32_at(b, vectors::past(at, 20)));
     let list = vectors::past(at, 24);
-    let held = stored::same_points(b, list, n, &set.points, live);
-    let empty = point_set::is_empty(set) == (n == 0);
-    placed & (volume & (mass & (held & empty)))
+    let fair = (boxes.refused == 0) & ((volume.refused == 0) & (mass.refused == 0));
+    let placed = vectors::size(vectors::u32_at(b, at)) == boxes.count;
+    let filled = vectors::same_float(b, vectors::past(at, 4), volume.amount);
+    let heavy = vectors::same_float(b, vectors::past(at, 12), mass.amount);
+    let held = stored::same_points(b, list, n, &set.points, live.count);
+    fair & (placed & (filled & (heavy & (held & (empty.holds == (n == 0))))))
 }
 
 pub(crate) fn same_calls(b: &[u8]) -> bool {

@@ -143,7 +143,7 @@ fn lines(b: &[u8], at: usize, words: &[u64], n: usize) -> Seen
 }
 
 // Whether no word from `from` on was changed.
-pub fn untouched(words: &[u64], from: usize) -> bool
+fn untouched(words: &[u64], from: usize) -> bool
     ensures { λ r. ⌜ r ≡ not (anyBelow (changed from (now (words .entry))) (length (now (words .entry)))) ⌝ }
 {
     let mut changed = false;

@@ -9,4 +9,4 @@ unfolding isRefused
 returns c = cc
 
 pub is-refused-spec : {M : Type 1} → statement M
-is-refused-spec = tie.close (tie.spec (λ c κs. search needs) returns)
+is-refused-spec = tie.close (tie.spec (λ c κs. tt) returns)

@@ -9,4 +9,4 @@ unfolding sameNumber
 returns c = cc
 
 pub same-number-spec : {M : Type 1} → statement M
-same-number-spec = tie.close (tie.spec (λ c κs. search needs) (λ c. search needs) (λ c κs. search needs) returns)
+same-number-spec = tie.close (tie.spec (λ c κs. tt) (λ c. search needs) (λ c κs. tt) returns)

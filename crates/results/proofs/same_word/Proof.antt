@@ -9,4 +9,4 @@ unfolding sameWord
 returns c = cc
 
 pub same-word-spec : {M : Type 1} → statement M
-same-word-spec = tie.close (tie.spec (λ c κs. search needs) (λ c κs. search needs) returns)
+same-word-spec = tie.close (tie.spec (λ c κs. tt) (λ c κs. tt) returns)

@@ -1,0 +1,2 @@
+-- What the contracts of `sample` cite.
+pub mod Sample
