@@ -1,5 +1,6 @@
 -- What holds of a fill by layers beyond its contract.
 pub mod Begin
+pub mod Best
 pub mod Made
 pub mod Reproduce
 pub mod Seeded
