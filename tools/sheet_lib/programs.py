@@ -53,7 +53,7 @@ def build(names):
     said = ' '.join(names)
     if not shutil.which('rt'):
         raise Problem('%s must be built first, and rt is not on the PATH: install the Rattle toolchain, or add the folder of rt to PATH' % said)
-    print('waikurpeho: building %s: all that it rests on is proved first, which takes ten to twenty minutes from nothing' % said, file=sys.stderr)
+    print('waikurpeho: building %s: all that it rests on is proved first, which takes five to ten minutes from nothing' % said, file=sys.stderr)
     done = subprocess.run(['rt', 'check'] + names, cwd=ROOT, stdin=subprocess.DEVNULL, stdout=sys.stderr)
     if done.returncode or not all(map(is_built, names)):
         raise Problem("'rt check %s' failed with status %d, so nothing can be run" % (said, done.returncode))
