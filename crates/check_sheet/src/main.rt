@@ -115,14 +115,14 @@ fn refuse(refused: u32, count: usize) {
 fn main() {
     let mut bytes = [0u8; BYTES];
     let n = io::read_full(STDIN_FILENO, &mut bytes);
-    let read = load_file::read_sheet(&bytes[..n]);
+    let read = file_laws::read_sheet(&bytes[..n]);
     if read.refused != 0 {
         refuse(read.refused, 0);
         return;
     }
     let sheet = read.sheet;
     let mut words = [0u64; CELLS];
-    let checked = checker::check_packing(sheet, &mut words);
+    let checked = check_packing::check_packing(sheet, &mut words);
     if checked.refused != 0 {
         refuse(checked.refused, checked.count);
         return;

@@ -54,3 +54,11 @@ most-is = refl
 pub most-limit-is : mostLimit ≡ round binary64 false 1000000000000 1
 unfolding ofBits round
 most-limit-is = refl
+
+-- ---- the slack of the first placer and of the checker's tolerance: a billionth
+abbrev pub slack : Float
+slack = ofBits binary64 0x3E112E0BE826D695
+
+pub slack-is : slack ≡ round binary64 false 1 1000000000
+unfolding ofBits round
+slack-is = refl

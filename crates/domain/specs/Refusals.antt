@@ -1,19 +1,18 @@
 -- Refusal numbers: 0 is none, and of several that hold the first tested counts.
-use Prim.Native.Nat.{ℕ, zero, suc, _+_}
-use mathlib.Core.Bool.{Bool, true, false, _||_}
-use mathlib.Core.List.{List, [], _++_}
+use Prim.Native.Nat.{ℕ, zero, suc}
+use mathlib.Core.Bool.{Bool, true, false}
 
 -- 01's numbers, each with where its condition is defined:
---   1 the load file's shape (read_file: rightShape)
---   2 a count or the total quantity (sheet: overCount, sheetRefusal; point_set: overCounts; layers: placeRefusal; kinds: surveyOf; unplaced: overBound; plans: planRefusal; points: fillRefusal; instances: seedRefusal; layer_plans: itemsRefusal; fitness: fitnessRefusal)
---   3 a measure or a position (measures: measureFault, containerFault; sheet: lineFault; fitness: fitnessRefusal; lent_cursor: askedFault)
+--   1 the load file's shape (file_read: rightShape)
+--   2 a count or the total quantity (sheet: overCount, sheetRefusal; point_state: overCounts; layer_fill: placeRefusal; sheet_kinds: surveyOf; plan_unplaced: overBound; plan_sheet: planRefusal; point_place: fillRefusal; layer_instances: seedRefusal; layer_plan: itemsRefusal; layer_fitness: fitnessRefusal)
+--   3 a measure or a position (measures: measureFault, containerFault; sheet: lineFault; layer_fitness: fitnessRefusal; layer_lent: askedFault)
 --   4 a kind record (measures: recordFault)
 --   5 a repeated id (sheet: sameId)
---   6 too few lent slots (write_file: writtenOf; plans: handRefusal; checker: checkRefusal; instances: buildRefusal, seedRefusal)
---   7 a full placer (points: refusalOf; layers: placeRefusal)
---   8 a length that isn't whole, for the fill per thousand (fill: fillRefusal)
---   9 a kind index past the order's kinds, in a given instance list (layer_plans: itemsRefusal; points: fillRefusal)
--- and their order: read_file: refusalOf, sheet: sheetRefusal, measures: kindFault, and each call's own refusal.
+--   6 too few lent slots (file_write: writtenOf; plan_sheet: handRefusal; check_packing: checkRefusal; layer_instances: buildRefusal, seedRefusal)
+--   7 a full placer (point_place: refusalOf; layer_fill: placeRefusal)
+--   8 a length that isn't whole, for the fill per thousand (fill_thousand: fillRefusal)
+--   9 a kind index past the order's kinds, in a given instance list (layer_plan: itemsRefusal; point_place: fillRefusal)
+-- and their order: file_read: refusalOf, sheet: sheetRefusal, measures: kindFault, and each call's own refusal.
 
 -- the refusal n where the test holds
 abbrev pub when : Bool → ℕ → ℕ
@@ -30,18 +29,3 @@ unfoldable pub firstBelow : (ℕ → ℕ) → ℕ → ℕ
 unfolding orElse
 firstBelow g zero = 0
 firstBelow g (suc n) = orElse (firstBelow g n) (g n)
-
--- whether the test holds somewhere below n
-unfoldable pub anyBelow : (ℕ → Bool) → ℕ → Bool
-anyBelow p zero = false
-anyBelow p (suc n) = anyBelow p n || p n
-
--- g 0, g 1, .. below n, one after the other
-unfoldable pub allBelow : (ℕ → List ℕ) → ℕ → List ℕ
-allBelow g zero = []
-allBelow g (suc n) = allBelow g n ++ g n
-
--- g 0 + g 1 + .. below n
-unfoldable pub sumBelow : (ℕ → ℕ) → ℕ → ℕ
-sumBelow g zero = 0
-sumBelow g (suc n) = sumBelow g n + g n

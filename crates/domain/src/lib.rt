@@ -1,5 +1,7 @@
 // The stated domain: every bound and range of the planner, once, with the tests on them; and the refusal numbers.
 ghost use mathlib.Core.Path.{_≡_};
+ghost use Prim.Native.Nat.{_<_};
+ghost use Rattle.domain.specs.Bounds.{mostKinds, placeWithin};
 ghost use Rattle.domain.specs.Ranges.{isLength, isMeasure, isLimit, isPosition};
 ghost use Rattle.domain.specs.Refusals.{when, orElse};
 
@@ -22,6 +24,9 @@ pub const LEAST_LENGTH: f64 = 0.000001;
 pub const MOST: f64 = 1000000000.0;
 
 pub const MOST_LIMIT: f64 = 1000000000000.0;
+
+// The slack of the first placer, and the least of the checker's.
+pub const SLACK: f64 = 0.000000001;
 
 // A length of a kind or of the container.
 pub fn is_length(x: f64) -> bool
@@ -51,6 +56,16 @@ pub fn is_position(x: f64) -> bool
     ensures { λ r. ⌜ r ≡ isPosition x ⌝ }
 {
     (-MOST <= x) & (x <= MOST)
+}
+
+// A place that a store of kinds has: the last one for a number past them.
+pub fn place_within(k: usize) -> usize
+    ensures { λ r. ⌜ (r ≡ placeWithin k) × (r < mostKinds) ⌝ }
+{
+    if k < MOST_KINDS {
+        return k;
+    }
+    MOST_KINDS - 1
 }
 
 // The number where the test holds, else none.

@@ -12,13 +12,13 @@ use Rattle.sheet.specs.declared.Counts.{Counts}
 use Rattle.sheet.specs.declared.Line.{Line}
 use Rattle.sheet.specs.declared.Sheet.{Sheet}
 use Rattle.sheet.specs.Sheets.{noKind, noLine}
-use Rattle.point_set.specs.declared.ExtremePointSet.{ExtremePointSet}
-use Rattle.point_set.specs.Fresh.{freshOf}
-use Rattle.points.specs.declared.Tried.{Tried}
-use Rattle.points.specs.Place.{triedOf}
-use Rattle.layers.specs.declared.Placing.{Placing}
-use Rattle.layers.specs.Fill.{opened, placedBest}
-use Rattle.pairs.specs.declared.Extent.{Extent}
+use Rattle.point_state.specs.declared.ExtremePointSet.{ExtremePointSet}
+use Rattle.point_state.specs.Fresh.{freshOf}
+use Rattle.point_place.specs.declared.Tried.{Tried}
+use Rattle.point_place.specs.Place.{triedOf}
+use Rattle.layer_fill.specs.declared.Placing.{Placing}
+use Rattle.layer_fill.specs.Fill.{opened, placedBest}
+use Rattle.check_pair.specs.declared.Extent.{Extent}
 
 -- the float nearest to a divided by b
 abbrev pub decimal : ℕ → ℕ → Float
@@ -51,14 +51,14 @@ any = 0
 abbrev pub fixed : ℕ
 fixed = 2
 
--- ---- extreme points: a fresh state, and a box tried in orientation 0
+-- ---- extreme point_place: a fresh state, and a box tried in orientation 0
 abbrev pub fresh : Container → ExtremePointSet
 fresh c = freshOf c .set
 
 abbrev pub try : ExtremePointSet → List Float → Tried
 try s size = triedOf s (kind fixed 1 size) 0 0
 
--- ---- layers: boxes of a kind one after the other, each in its best orientation
+-- ---- layer_fill: boxes of a kind one after the other, each in its best orientation
 abbrev pub first : Container → Kind → Placing
 first b k = placedBest (opened b .fill) k 0
 
@@ -96,6 +96,6 @@ listing n us = sheetOf ten (seven n ∷ []) (sevenAt 0 none ∷ []) us
 abbrev pub worked : Sheet
 worked = sheetOf (case (cube (whole 10)) (whole 1)) (seven 2 ∷ []) (sevenAt 0 none ∷ sevenAt 0 (decimal 9 2) ∷ []) []
 
--- ---- pairs: a box between two corners
+-- ---- check_pair: a box between two corners
 abbrev pub box : List Float → List Float → Extent
 box near far = record { min = near; max = far }

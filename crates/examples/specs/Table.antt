@@ -8,30 +8,31 @@ use lib.Count.{trailingZeros}
 use lib.ListN.{getD}
 use lib.Ieee.{Float, binary64, fin, lt, le, eq, add, sub, mul, sum, round, units, odd, size, ofBits, toBits, ofFields, neg, span, climb}
 use Rattle.floats.specs.Ops.{none}
-use Rattle.domain.specs.Refusals.{orElse, anyBelow, sumBelow}
+use Rattle.lists.specs.Below.{anyBelow, sumBelow}
+use Rattle.domain.specs.Refusals.{orElse}
 use Rattle.measures.specs.declared.Container.{Container}
 use Rattle.measures.specs.Orders.{lengthsIn}
 use Rattle.measures.specs.Faults.{kindFault, containerFault}
-use Rattle.point_set.specs.Triples.{three, put3}
-use Rattle.point_set.specs.Fresh.{startOf}
-use Rattle.points.specs.declared.Answer.the-variants.{Stands, NoRoom}
-use Rattle.points.specs.All.{all}
-use Rattle.points.specs.Fit.{inside as fitsInside, apart, separated, fitsAt}
-use Rattle.points.specs.Choose.{sooner, takes, stepBy, scanBy, bestOf as leastOf}
-use Rattle.points.specs.Grow.{within, buries, free, valid, cornersOf, countWith, pointsWith, stockBy, putBox, settled as grownBy}
-use Rattle.point_set.specs.Reads.{overCounts}
-use Rattle.points.specs.Place.{refusalOf, placedBy, triedOf}
-use Rattle.spots.specs.Spot.{newRow, newLayer, spotOf}
-use Rattle.stands.specs.Stand.{settled}
-use Rattle.stands.specs.Best.{better, bestOf, placeBestOf}
-use Rattle.layers.specs.Fill.{blankLine, noLines, opened, took, placeRefusal, answered, placedBest}
-use Rattle.root.specs.Sqrt.{sqrtOf}
-use Rattle.pairs.specs.declared.Verdict.the-variants.{TooClose}
-use Rattle.pairs.specs.Tolerance.{toleranceOf}
-use Rattle.pairs.specs.Pair.{distanceOf, verdictAt, verdictOf}
-use Rattle.checker.specs.Words.{allBelow}
-use Rattle.checker.specs.Lines.{kindBelow, known, kindFor, sameAs, again, counted, packs, packed, short, isListed, massBelow}
-use Rattle.checker.specs.Findings.{nameWords, repeatWords, inside, placeWords, repeatFinding, lineFindings, verdictWords, verdictOn, pairWords, pairFinding, pairsFrom, massWords, massFinding, lostWords, missing, wrongWords, wronglyListed, findings}
+use Rattle.point_state.specs.Triples.{three, put3}
+use Rattle.point_state.specs.Fresh.{startOf}
+use Rattle.point_place.specs.declared.Answer.the-variants.{Stands, NoRoom}
+use Rattle.point_place.specs.All.{all}
+use Rattle.point_place.specs.Fit.{inside as fitsInside, apart, separated, fitsAt}
+use Rattle.point_place.specs.Choose.{sooner, takes, stepBy, scanBy, bestOf as leastOf}
+use Rattle.point_place.specs.Grow.{within, buries, free, valid, cornersOf, countWith, pointsWith, stockBy, putBox, settled as grownBy}
+use Rattle.point_state.specs.Reads.{overCounts}
+use Rattle.point_place.specs.Place.{refusalOf, placedBy, triedOf}
+use Rattle.layer_cursor.specs.Spot.{newRow, newLayer, spotOf}
+use Rattle.layer_state.specs.Stand.{settled}
+use Rattle.layer_state.specs.Best.{better, bestOf, placeBestOf}
+use Rattle.layer_fill.specs.Fill.{blankLine, noLines, opened, took, placeRefusal, answered, placedBest}
+use Rattle.check_root.specs.Sqrt.{sqrtOf}
+use Rattle.check_pair.specs.declared.Verdict.the-variants.{TooClose}
+use Rattle.check_pair.specs.Tolerance.{toleranceOf}
+use Rattle.check_pair.specs.Pair.{distanceOf, verdictAt, verdictOf}
+use Rattle.check_packing.specs.Words.{allBelow}
+use Rattle.check_packing.specs.Lines.{kindBelow, known, kindFor, sameAs, again, counted, packs, packed, short, isListed, massBelow}
+use Rattle.check_packing.specs.Findings.{nameWords, repeatWords, inside, placeWords, repeatFinding, lineFindings, verdictWords, verdictOn, pairWords, pairFinding, pairsFrom, massWords, massFinding, lostWords, missing, wrongWords, wronglyListed, findings}
 use Rattle.examples.specs.Parts.{decimal, whole, at, cube, case, ten, kind, any, fresh, try, first, second, third, one, listing, worked, box}
 
 -- P3's boxes, and P5's boxes and case

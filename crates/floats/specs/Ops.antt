@@ -27,6 +27,10 @@ _⊘_ = Ieee.div binary64
 abbrev pub none : Float
 none = ofBits binary64 0
 
+-- a vector that says nothing: three times +0
+abbrev pub nowhere : List Float
+nowhere = none ∷ none ∷ none ∷ []
+
 -- the coordinates of a vector: width, depth, height
 abbrev pub x : List Float → Float
 x v = getD v 0 nan

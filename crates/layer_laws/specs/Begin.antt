@@ -13,17 +13,18 @@ use lib.Seq.{getD-set-other}
 use Rattle.measures.specs.declared.Kind.{Kind}
 use Rattle.sheet.specs.declared.Sheet.{Sheet}
 use Rattle.sheet.specs.Sheets.{noKind, noLine, sheetRefusal}
-use Rattle.stands.specs.declared.stand.Step.{Step}
-use Rattle.layers.specs.declared.LayerFill.{LayerFill}
-use Rattle.layers.specs.Fill.{empty, lineOf, took}
-use Rattle.plans.specs.declared.Plan.{Plan}
-use Rattle.plans.specs.Boxes.{smaller}
-use Rattle.plans.specs.Plans.{refusedPlan}
-use Rattle.layer_plans.specs.declared.offers.Offer.{Offer}
-use Rattle.layer_plans.specs.Run.{stepBy, offered, runFrom, cond-keeps}
-use Rattle.layer_plans.specs.Offers.{bestOffer}
-use Rattle.instances.specs.Instances.{total}
-use Rattle.layer_plans.specs.Fills.{layerFillOf}
+use Rattle.layer_state.specs.declared.stand.Step.{Step}
+use Rattle.layer_fill.specs.declared.LayerFill.{LayerFill}
+use Rattle.layer_fill.specs.Fill.{empty, lineOf, took}
+use Rattle.plan_sheet.specs.declared.Plan.{Plan}
+use Rattle.plan_sheet.specs.Boxes.{smaller}
+use Rattle.plan_sheet.specs.Plans.{refusedPlan}
+use Rattle.layer_plan.specs.declared.offers.Offer.{Offer}
+use Rattle.lists.specs.Bools.{cond-keeps}
+use Rattle.layer_plan.specs.Run.{stepBy, offered, runFrom}
+use Rattle.layer_plan.specs.Offers.{bestOffer}
+use Rattle.layer_instances.specs.Instances.{total}
+use Rattle.layer_plan.specs.Fills.{layerFillOf}
 use Rattle.layer_laws.specs.Made.{fillTo, number, Made, fill-made}
 
 -- the lines of f are the first lines of g

@@ -13,10 +13,10 @@ use Rattle.floats.specs.Weak.{Number, Weak, lt-weak, true-false}
 use Rattle.measures.specs.declared.Container.{Container}
 use Rattle.measures.specs.declared.Kind.{Kind}
 use Rattle.measures.specs.Orders.{lengthsIn}
-use Rattle.spots.specs.declared.LayerCursor.{LayerCursor}
-use Rattle.spots.specs.declared.LayerSpot.{LayerSpot}
-use Rattle.spots.specs.Spot.{spotOf}
-use Rattle.stands.specs.Best.{scoreOf, better, bestOf}
+use Rattle.layer_cursor.specs.declared.LayerCursor.{LayerCursor}
+use Rattle.layer_cursor.specs.declared.LayerSpot.{LayerSpot}
+use Rattle.layer_cursor.specs.Spot.{spotOf}
+use Rattle.layer_state.specs.Best.{scoreOf, better, bestOf}
 
 -- the choice among the first n orientations, where it was found, and its score: it fits; no other that fits has a lesser score, and those before it have greater ones; and
 -- there is none exactly where none fits

@@ -11,18 +11,18 @@ use Rattle.measures.specs.declared.Kind.{Kind}
 use Rattle.sheet.specs.declared.Sheet.{Sheet}
 use Rattle.sheet.specs.Sheets.{noKind, sheetRefusal}
 use Rattle.sheet.specs.Accepted.{Accepted, accepted}
-use Rattle.layers.specs.declared.LayerFill.{LayerFill}
-use Rattle.layers.specs.Fill.{empty}
-use Rattle.unplaced.specs.declared.Left.{Left}
-use Rattle.unplaced.specs.Left.{pushIf, leftAfter, leftOf}
-use Rattle.plans.specs.declared.Plan.{Plan}
-use Rattle.plans.specs.Boxes.{smaller}
-use Rattle.plans.specs.Plans.{leftBy, plannedOf}
-use Rattle.layer_plans.specs.Run.{runFrom, run-few}
-use Rattle.layer_plans.specs.Offers.{bestOffer}
-use Rattle.instances.specs.Instances.{total}
-use Rattle.boxes.specs.Orders.{boxes-are}
-use Rattle.layer_plans.specs.Fills.{planFrom, layerFillOf, smaller-le}
+use Rattle.layer_fill.specs.declared.LayerFill.{LayerFill}
+use Rattle.layer_fill.specs.Fill.{empty}
+use Rattle.plan_unplaced.specs.declared.Left.{Left}
+use Rattle.plan_unplaced.specs.Left.{pushIf, leftAfter, leftOf}
+use Rattle.plan_sheet.specs.declared.Plan.{Plan}
+use Rattle.plan_sheet.specs.Boxes.{smaller}
+use Rattle.plan_sheet.specs.Plans.{leftBy, plannedOf}
+use Rattle.layer_plan.specs.Run.{runFrom, run-few}
+use Rattle.layer_plan.specs.Offers.{bestOffer}
+use Rattle.layer_instances.specs.Instances.{total}
+use Rattle.plan_boxes.specs.Orders.{boxes-are}
+use Rattle.layer_plan.specs.Fills.{planFrom, layerFillOf, smaller-le}
 
 -- the fill over n boxes of an order
 abbrev pub fillTo : Sheet → ℕ → LayerFill

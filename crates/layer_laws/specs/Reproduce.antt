@@ -14,28 +14,29 @@ use lib.Dec.{eqb}
 use lib.ListN.{length, getD, set, length-set}
 use lib.Seq.{getD-set-same, getD-set-other}
 use Rattle.domain.specs.Bounds.{mostBoxes}
-use Rattle.domain.specs.Refusals.{sumBelow}
-use Rattle.domain.specs.Laws.{any-none}
+use Rattle.lists.specs.Below.{sumBelow}
+use Rattle.lists.specs.Below.{any-none}
 use Rattle.measures.specs.declared.Kind.{Kind}
 use Rattle.measures.specs.Orders.{shareOf}
 use Rattle.sheet.specs.declared.Line.{Line}
 use Rattle.sheet.specs.declared.Sheet.{Sheet}
 use Rattle.sheet.specs.Sheets.{noKind, noLine, sameId, quantityOf}
 use Rattle.sheet.specs.Accepted.{Accepted}
-use Rattle.stands.specs.declared.stand.Step.{Step}
-use Rattle.layers.specs.declared.LayerFill.{LayerFill}
-use Rattle.layers.specs.Fill.{empty, lineOf, pushed, noLines, took}
-use Rattle.stands.specs.Stand.{placeOf}
-use Rattle.stands.specs.Best.{placeBestOf}
-use Rattle.stands.specs.Again.{seedFor, some-turn, best-again}
-use Rattle.layer_plans.specs.declared.offers.Offer.{Offer}
-use Rattle.layer_plans.specs.declared.offers.Way.the-variants.{Turned}
-use Rattle.boxes.specs.Turns.{turnOf, Right, turn-right, by-order}
-use Rattle.layer_plans.specs.Run.{offered, runFrom, run-few, cond-keeps}
-use Rattle.layer_plans.specs.Offers.{bestOffer}
-use Rattle.fitness.specs.Fitness.{atLeastOne}
-use Rattle.boxes.specs.Orders.{some-boxes}
-use Rattle.instances.specs.Seeds.{seedOf}
+use Rattle.layer_state.specs.declared.stand.Step.{Step}
+use Rattle.layer_fill.specs.declared.LayerFill.{LayerFill}
+use Rattle.layer_fill.specs.Fill.{empty, lineOf, pushed, noLines, took}
+use Rattle.layer_state.specs.Stand.{placeOf}
+use Rattle.layer_state.specs.Best.{placeBestOf}
+use Rattle.layer_state.specs.Again.{seedFor, some-turn, best-again}
+use Rattle.layer_plan.specs.declared.offers.Offer.{Offer}
+use Rattle.layer_plan.specs.declared.offers.Way.the-variants.{Turned}
+use Rattle.plan_boxes.specs.Turns.{turnOf, Right, turn-right, by-order}
+use Rattle.lists.specs.Bools.{cond-keeps}
+use Rattle.layer_plan.specs.Run.{offered, runFrom, run-few}
+use Rattle.layer_plan.specs.Offers.{bestOffer}
+use Rattle.layer_fitness.specs.Fitness.{atLeastOne}
+use Rattle.plan_boxes.specs.Orders.{some-boxes}
+use Rattle.layer_instances.specs.Seeds.{seedOf}
 use Rattle.layer_laws.specs.Made.{fillTo}
 
 -- ---- the box of a turn

@@ -10,23 +10,24 @@ use native.Mathlib.Omega.{arith}
 use borrow.Author.Tests.{eq-eqb, lt-ltb, le-ltb, lt-leb}
 use lib.ListN.{length, getD}
 use Rattle.domain.specs.Bounds.{mostItems, mostInstances}
-use Rattle.domain.specs.Refusals.{orElse, anyBelow}
+use Rattle.lists.specs.Below.{anyBelow}
+use Rattle.domain.specs.Refusals.{orElse}
 use Rattle.domain.specs.Laws.{or-else-first}
 use Rattle.measures.specs.Orders.{shareOf}
 use Rattle.sheet.specs.declared.Sheet.{Sheet}
 use Rattle.sheet.specs.Sheets.{noKind, sheetRefusal}
 use Rattle.sheet.specs.Accepted.{accepted}
-use Rattle.layers.specs.declared.LayerFill.{LayerFill}
-use Rattle.layers.specs.Fill.{empty}
-use Rattle.boxes.specs.Turns.{turnOf, Right, turn-right}
-use Rattle.plans.specs.declared.Plan.{Plan}
-use Rattle.plans.specs.Rows.{wrote, wrote-at, wrote-length}
-use Rattle.instances.specs.Records.{recordsIn, isStranger}
-use Rattle.boxes.specs.Orders.{some-boxes, boxes-are}
-use Rattle.layer_plans.specs.Offers.{itemsIn, itemOffer, run-same}
-use Rattle.layer_plans.specs.Fills.{planFrom, layerFillOf, itemsRefusal, placeItemsOf, smaller-le}
-use Rattle.instances.specs.Instances.{total, recordWords, buildRefusal, recordsAfter, three}
-use Rattle.instances.specs.Seeds.{seedOf, seedWords, seedRefusal, seedsAfter}
+use Rattle.layer_fill.specs.declared.LayerFill.{LayerFill}
+use Rattle.layer_fill.specs.Fill.{empty}
+use Rattle.plan_boxes.specs.Turns.{turnOf, Right, turn-right}
+use Rattle.plan_sheet.specs.declared.Plan.{Plan}
+use Rattle.lists.specs.Rows.{wrote, wrote-at, wrote-length}
+use Rattle.layer_instances.specs.Records.{recordsIn, isStranger}
+use Rattle.plan_boxes.specs.Orders.{some-boxes, boxes-are}
+use Rattle.layer_plan.specs.Offers.{itemsIn, itemOffer, run-same}
+use Rattle.layer_plan.specs.Fills.{planFrom, layerFillOf, itemsRefusal, placeItemsOf, smaller-le}
+use Rattle.layer_instances.specs.Instances.{total, recordWords, buildRefusal, recordsAfter, three}
+use Rattle.layer_instances.specs.Seeds.{seedOf, seedWords, seedRefusal, seedsAfter}
 use Rattle.layer_laws.specs.Made.{number, fill-plan, fill-made}
 use Rattle.layer_laws.specs.Reproduce.{kindOf, seedIn, seededOffer, run-again}
 

@@ -22,25 +22,14 @@ row-bound zero = omega arith
 row-bound (suc zero) = omega arith
 row-bound (suc (suc r)) = omega arith
 
-pub fixed-count : (r : ℕ) → (r ≡ 0 → ⊥) → (r ≡ 1 → ⊥) → 1 ≡ length (shareOf r)
-fixed-count zero a b = absurd (a refl)
-fixed-count (suc zero) a b = absurd (b refl)
-fixed-count (suc (suc r)) a b = refl
+abbrev pub counts : List ℕ
+counts = 6 ∷ 2 ∷ 1 ∷ []
 
--- the share of "any" is the whole table
-pub any-share : (i : ℕ) → i < 6 → i ≡ getD (shareOf 0) i 0
-any-share zero h = refl
-any-share (suc zero) h = refl
-any-share (suc (suc zero)) h = refl
-any-share (suc (suc (suc zero))) h = refl
-any-share (suc (suc (suc (suc zero)))) h = refl
-any-share (suc (suc (suc (suc (suc zero))))) h = refl
-any-share (suc (suc (suc (suc (suc (suc i)))))) h = absurd (omega arith)
-
-pub share-few : (r : ℕ) → length (shareOf r) ≤ 6
-share-few zero = omega arith
-share-few (suc zero) = omega arith
-share-few (suc (suc r)) = omega arith
+-- the entry of a rule's line is how many orders it allows
+pub counted : (r : ℕ) → getD counts (rowOf r) 0 ≡ length (shareOf r)
+counted zero = refl
+counted (suc zero) = refl
+counted (suc (suc r)) = refl
 
 abbrev pub shares : List (List ℕ)
 shares = (0 ∷ 1 ∷ 2 ∷ 3 ∷ 4 ∷ 5 ∷ []) ∷ (0 ∷ 2 ∷ 0 ∷ 0 ∷ 0 ∷ 0 ∷ []) ∷ (0 ∷ 0 ∷ 0 ∷ 0 ∷ 0 ∷ 0 ∷ []) ∷ []

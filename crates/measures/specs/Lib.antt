@@ -4,3 +4,4 @@ pub mod Turned
 pub mod Among
 pub mod Volume
 pub mod Faults
+pub mod Asked

@@ -1,8 +1,9 @@
 -- The six axis orders, each rule's share of them, and the lengths of a box in an orientation.
-use Prim.Native.Nat.{ℕ, zero, suc}
+use Prim.Native.Nat.{ℕ, zero, suc, _≤_}
 use mathlib.Core.Path.{_≡_, refl}
 use mathlib.Core.Bool.{cond}
 use mathlib.Core.List.{List, [], _∷_, map}
+use native.Mathlib.Omega.{arith}
 use lib.Dec.{ltb}
 use lib.ListN.{length, getD}
 use lib.Ieee.{Float, nan}
@@ -17,6 +18,12 @@ abbrev pub shareOf : ℕ → List ℕ
 shareOf zero = 0 ∷ 1 ∷ 2 ∷ 3 ∷ 4 ∷ 5 ∷ []
 shareOf (suc zero) = 0 ∷ 2 ∷ []
 shareOf (suc (suc n)) = 0 ∷ []
+
+-- a rule allows at most all of them
+pub share-few : (r : ℕ) → length (shareOf r) ≤ 6
+share-few zero = omega arith
+share-few (suc zero) = omega arith
+share-few (suc (suc r)) = omega arith
 
 -- a rule's line in a table by rule
 abbrev pub rowOf : ℕ → ℕ

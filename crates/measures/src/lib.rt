@@ -6,6 +6,7 @@ ghost use lib.ListN.{length, getD};
 ghost use Rattle.measures.specs.Orders.{orders, shareOf, rowOf, turned, lengthsIn};
 ghost use Rattle.measures.specs.Among.{allTurned, lengthsAmong};
 ghost use Rattle.measures.specs.Volume.{volume};
+ghost use Rattle.measures.specs.Asked.{hasMass};
 ghost use Rattle.measures.specs.Faults.{recordFault, measureFault, kindFault, containerFault};
 
 // A kind of box, field by field as a kind record of the load file. `rule` is 0 for any orientation, 1 for upright and 2
@@ -40,6 +41,8 @@ const ORDERS: [[u8; 3]; 6] = [
 
 const SHARES: [[u8; 6]; 3] = [[0, 1, 2, 3, 4, 5], [0, 2, 0, 0, 0, 0], [0, 0, 0, 0, 0, 0]];
 
+const COUNTS: [u8; 3] = [6, 2, 1];
+
 // Three lengths in each of the six orders.
 pub const SIX: usize = 18;
 
@@ -57,13 +60,7 @@ fn row(rule: u8) -> usize
 pub fn allowed_orientations(rule: u8) -> usize
     ensures { λ r. ⌜ r ≡ length (shareOf rule) ⌝ }
 {
-    if rule == 0 {
-        return 6;
-    }
-    if rule == 1 {
-        return 2;
-    }
-    1
+    COUNTS[row(rule)] as usize
 }
 
 // The row of the rule's orientation i.
@@ -71,10 +68,6 @@ fn share(rule: u8, i: usize) -> usize
     requires { ⌜ i < length (shareOf rule) ⌝ }
     ensures { λ r. ⌜ (r ≡ getD (shareOf rule) i 0) × (r < 6) ⌝ }
 {
-    // the first line is 0 to 5, and most kinds have that rule
-    if rule == 0 {
-        return i;
-    }
     SHARES[row(rule)][i] as usize
 }
 
@@ -152,6 +145,13 @@ pub fn dimensions_among(all: &[f64; SIX], size: [f64; 3], rule: u8, orientation:
     }
     let at = share(rule, o) * 3;
     [all[at], all[at + 1], all[at + 2]]
+}
+
+// Whether a box has a mass, by the flag of its kind.
+pub fn has_mass(massed: u8) -> bool
+    ensures { λ r. ⌜ r ≡ hasMass massed ⌝ }
+{
+    !(massed == 0)
 }
 
 // The volume of a box of these lengths: width by depth, then by height.

@@ -1,6 +1,6 @@
 // A plan as lines of text on standard output.
 use libc::STDOUT_FILENO;
-use plans::Plan;
+use plan_sheet::Plan;
 use sheet::Line;
 
 fn put(t: &[u8]) {

@@ -6,7 +6,7 @@ mod words; // words.rt: the words that the planner is started with
 use libc::STDERR_FILENO;
 use libc::STDIN_FILENO;
 use libc::STDOUT_FILENO;
-use plans::Plan;
+use plan_sheet::Plan;
 use sheet::Sheet;
 
 // One byte more than a load file may have, so that a longer input is seen to be longer and not cut.
@@ -29,14 +29,14 @@ fn put_first(bytes: &[u8], n: usize) {
 }
 
 fn write(order: Sheet, p: Plan) {
-    let planned = plans::planned_sheet(order, p);
+    let planned = plan_sheet::planned_sheet(order, p);
     if planned.refused != 0 {
         refuse(planned.refused);
         return;
     }
     let s = planned.sheet;
     let mut bytes = [0u8; BYTES];
-    let w = load_file::write_sheet(s, &mut bytes);
+    let w = file_laws::write_sheet(s, &mut bytes);
     if w.refused != 0 {
         refuse(w.refused);
         return;
@@ -46,15 +46,15 @@ fn write(order: Sheet, p: Plan) {
 
 fn planned(order: Sheet, layers: bool, consider: u64) -> Plan {
     if layers {
-        return layers_run::layer_fill(order, consider);
+        return layer_run::layer_fill(order, consider);
     }
-    points_run::ep_packing(order, consider)
+    point_run::ep_packing(order, consider)
 }
 
 fn run(layers: bool, consider: u64, listed: bool) {
     let mut bytes = [0u8; BYTES];
     let n = io::read_full(STDIN_FILENO, &mut bytes);
-    let read = load_file::read_sheet(&bytes[..n]);
+    let read = file_laws::read_sheet(&bytes[..n]);
     if read.refused != 0 {
         refuse(read.refused);
         return;

@@ -15,31 +15,31 @@ use Rattle.sheet.specs.declared.Line.{Line}
 use Rattle.sheet.specs.declared.Sheet.{Sheet}
 use Rattle.sheet.specs.Sheets.{noKind, noLine, boxesIn, lineFault, lineFaultIn, sheetRefusal}
 use Rattle.sheet.specs.Accepted.{Accepted, accepted}
-use Rattle.boxes.specs.Turns.{turnOf, turn-right}
-use Rattle.unplaced.specs.declared.Left.{Left}
-use Rattle.unplaced.specs.Left.{leftAfter, flagsOf, leftOf, left-few, left-fair}
-use Rattle.unplaced.specs.Short.{namesOf}
-use Rattle.unplaced.specs.Anew.{anew-refusal}
-use Rattle.plans.specs.declared.Plan.{Plan}
-use Rattle.plans.specs.Plans.{blankLine, leftBy, plannedOf, planRefusal}
-use Rattle.plans.specs.Planned.{widened, plannedSheet, sheetFrom}
-use Rattle.points.specs.declared.Filled.{Filled}
-use Rattle.point_set.specs.Fresh.{freshOf}
-use Rattle.points_laws.specs.Reach.{start}
-use Rattle.points_run.specs.Stored.{stored, stored-at}
-use Rattle.points_run.specs.Order.{fallingBoxes}
-use Rattle.points_run.specs.Runs.{lineBy, lineOf, planFrom, fillOf, epPackingOf}
-use Rattle.points_laws.specs.Reached.{fill-reached}
-use Rattle.points_run.specs.Kinds.{boxes-few}
-use Rattle.points_laws.specs.Told.{considers, fillBy, placed-few}
-use Rattle.plans.specs.Boxes.{smaller}
-use Rattle.layers.specs.declared.LayerFill.{LayerFill}
-use Rattle.layers.specs.Fill.{empty}
-use Rattle.layer_plans.specs.Run.{runFrom, run-few}
-use Rattle.layer_plans.specs.Offers.{bestOffer}
-use Rattle.layer_plans.specs.Fills as Fills
-use Rattle.layer_plans.specs.Fills.{layerFillOf, smaller-le, turns-right}
-use Rattle.boxes.specs.Orders.{some-boxes, boxes-are}
+use Rattle.plan_boxes.specs.Turns.{turnOf, turn-right}
+use Rattle.plan_unplaced.specs.declared.Left.{Left}
+use Rattle.plan_unplaced.specs.Left.{leftAfter, flagsOf, leftOf, left-few, left-fair}
+use Rattle.plan_unplaced.specs.Short.{namesOf}
+use Rattle.plan_unplaced.specs.Anew.{anew-refusal}
+use Rattle.plan_sheet.specs.declared.Plan.{Plan}
+use Rattle.plan_sheet.specs.Plans.{blankLine, leftBy, plannedOf, planRefusal}
+use Rattle.plan_sheet.specs.Planned.{widened, plannedSheet, sheetFrom}
+use Rattle.point_place.specs.declared.Filled.{Filled}
+use Rattle.point_state.specs.Fresh.{freshOf}
+use Rattle.point_laws.specs.Reach.{start}
+use Rattle.point_run.specs.Stored.{stored, stored-at}
+use Rattle.point_run.specs.Order.{fallingBoxes}
+use Rattle.point_run.specs.Runs.{lineBy, lineOf, planFrom, fillOf, epPackingOf}
+use Rattle.point_laws.specs.Reached.{fill-reached}
+use Rattle.point_run.specs.Kinds.{boxes-few}
+use Rattle.point_laws.specs.Told.{considers, fillBy, placed-few}
+use Rattle.plan_sheet.specs.Boxes.{smaller}
+use Rattle.layer_fill.specs.declared.LayerFill.{LayerFill}
+use Rattle.layer_fill.specs.Fill.{empty}
+use Rattle.layer_plan.specs.Run.{runFrom, run-few}
+use Rattle.layer_plan.specs.Offers.{bestOffer}
+use Rattle.layer_plan.specs.Fills as Fills
+use Rattle.layer_plan.specs.Fills.{layerFillOf, smaller-le, turns-right}
+use Rattle.plan_boxes.specs.Orders.{some-boxes, boxes-are}
 use Rattle.plan_laws.specs.Spots.{sized, no-fault}
 use Rattle.plan_laws.specs.Points.{Housed, reached-housed}
 use Rattle.plan_laws.specs.Layers.{InOrder, fill-right}

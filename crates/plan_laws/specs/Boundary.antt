@@ -8,14 +8,14 @@ use Rattle.domain.specs.Refusals.{when}
 use Rattle.domain.specs.Laws.{or-else-second}
 use Rattle.sheet.specs.declared.Sheet.{Sheet}
 use Rattle.sheet.specs.Sheets.{sheetRefusal}
-use Rattle.write_file.specs.declared.Written.{Written}
-use Rattle.read_file.specs.Form.{rightShape}
-use Rattle.read_file.specs.Reading.{refusalOf, readOf}
-use Rattle.write_file.specs.Writing.{fileLength, writtenOf}
-use Rattle.plans.specs.declared.Plan.{Plan}
-use Rattle.plans.specs.Planned.{plannedSheet}
-use Rattle.points_run.specs.Runs.{epPackingOf}
-use Rattle.layer_plans.specs.Fills.{layerFillOf}
+use Rattle.file_write.specs.declared.Written.{Written}
+use Rattle.file_read.specs.Form.{rightShape}
+use Rattle.file_read.specs.Reading.{refusalOf, readOf}
+use Rattle.file_write.specs.Writing.{fileLength, writtenOf}
+use Rattle.plan_sheet.specs.declared.Plan.{Plan}
+use Rattle.plan_sheet.specs.Planned.{plannedSheet}
+use Rattle.point_run.specs.Runs.{epPackingOf}
+use Rattle.layer_plan.specs.Fills.{layerFillOf}
 use Rattle.waikurpeho.specs.Answer.{answerOf}
 use Rattle.waikurpeho.specs.Plan.{planAnswer, orderAnswer}
 use Rattle.plan_laws.specs.Accepted.{Taken, points-accepted, layers-accepted}

@@ -16,25 +16,25 @@ use Rattle.floats.specs.Order.{signed}
 use Rattle.floats.specs.Sums.{add-signed}
 use Rattle.floats.specs.Weak.{true-false}
 use Rattle.domain.specs.Bounds.{mostBoxes}
-use Rattle.domain.specs.Laws.{or-left, or-right}
+use Rattle.lists.specs.Bools.{or-left, or-right}
 use Rattle.measures.specs.declared.Container.{Container}
 use Rattle.measures.specs.declared.Kind.{Kind}
 use Rattle.measures.specs.Orders.{lengthsIn}
 use Rattle.measures.specs.Faults.{measureFault}
 use Rattle.sheet.specs.Sheets.{noKind, noLine}
-use Rattle.boxes.specs.Turns.{turnOf}
-use Rattle.spots.specs.declared.LayerCursor.{LayerCursor}
-use Rattle.spots.specs.declared.LayerSpot.{LayerSpot}
-use Rattle.stands.specs.declared.stand.Stand.{Stand}
-use Rattle.stands.specs.declared.stand.Step.{Step}
-use Rattle.layers.specs.declared.LayerFill.{LayerFill}
-use Rattle.spots.specs.Spot.{newRow, newLayer, over, past, turnTo, spotOf}
-use Rattle.stands.specs.Stand.{newOf, massAllows, spotIn, settled, turnedOf, noStep}
-use Rattle.stands.specs.Best.{bestFor, placeBestOf}
-use Rattle.layers.specs.Fill.{noLines, empty, lineOf, took}
-use Rattle.points.specs.Choose.{cond-cases}
-use Rattle.layer_plans.specs.Run.{offered, runFrom, run-few}
-use Rattle.layer_plans.specs.Offers.{bestOffer}
+use Rattle.plan_boxes.specs.Turns.{turnOf}
+use Rattle.layer_cursor.specs.declared.LayerCursor.{LayerCursor}
+use Rattle.layer_cursor.specs.declared.LayerSpot.{LayerSpot}
+use Rattle.layer_state.specs.declared.stand.Stand.{Stand}
+use Rattle.layer_state.specs.declared.stand.Step.{Step}
+use Rattle.layer_fill.specs.declared.LayerFill.{LayerFill}
+use Rattle.layer_cursor.specs.Spot.{newRow, newLayer, over, past, turnTo, spotOf}
+use Rattle.layer_state.specs.Stand.{newOf, massAllows, spotIn, settled, turnedOf, noStep}
+use Rattle.layer_state.specs.Best.{bestFor, placeBestOf}
+use Rattle.layer_fill.specs.Fill.{noLines, empty, lineOf, took}
+use Rattle.lists.specs.Bools.{cond-cases}
+use Rattle.layer_plan.specs.Run.{offered, runFrom, run-few}
+use Rattle.layer_plan.specs.Offers.{bestOffer}
 use Rattle.plan_laws.specs.Spots.{Lengths, lengths-in, Sized, InRange, not-negative, layer-axis}
 
 -- ---- the cursor

@@ -12,13 +12,13 @@ use lib.Dec.{eqb}
 use lib.ListN.{length, getD, set, length-set, length-replicate}
 use lib.Seq.{getD-set-same, getD-set-other}
 use Rattle.domain.specs.Bounds.{mostKinds}
-use Rattle.domain.specs.Refusals.{anyBelow}
+use Rattle.lists.specs.Below.{anyBelow}
 use Rattle.measures.specs.declared.Kind.{Kind}
 use Rattle.sheet.specs.Sheets.{noKind}
-use Rattle.sheet.specs.Ids.{any-same}
-use Rattle.unplaced.specs.declared.Left.{Left}
-use Rattle.unplaced.specs.Left.{shortKind, flagsOf, pushIf, leftAfter, left-few}
-use Rattle.checker.specs.Lines.{isListed}
+use Rattle.lists.specs.Below.{any-same}
+use Rattle.plan_unplaced.specs.declared.Left.{Left}
+use Rattle.plan_unplaced.specs.Left.{shortKind, flagsOf, pushIf, leftAfter, left-few}
+use Rattle.check_packing.specs.Lines.{isListed}
 
 -- no test below n
 pub any-all : (p : ℕ → Bool) (n : ℕ) → ((j : ℕ) → j < n → p j ≡ false) → anyBelow p n ≡ false

@@ -10,24 +10,24 @@ use borrow.Author.Tests.{lt-ltb}
 use lib.ListN.{length, getD, length-set, length-replicate}
 use lib.Seq.{getD-set-same, getD-set-other}
 use Rattle.domain.specs.Bounds.{mostKinds, mostLines, mostUnplaced}
-use Rattle.domain.specs.Refusals.{anyBelow}
-use Rattle.domain.specs.Laws.{any-none}
+use Rattle.lists.specs.Below.{anyBelow}
+use Rattle.lists.specs.Below.{any-none}
 use Rattle.sheet.specs.declared.Sheet.{Sheet}
 use Rattle.sheet.specs.Sheets.{kindAt, unplacedAt, sameId, sheetRefusal}
-use Rattle.sheet.specs.Ids.{any-same}
+use Rattle.lists.specs.Below.{any-same}
 use Rattle.sheet.specs.Accepted.{Accepted, accepted}
-use Rattle.unplaced.specs.declared.Left.{Left}
-use Rattle.unplaced.specs.Short.{isShort, namesOf}
-use Rattle.unplaced.specs.Left.{shortKind, flagsOf, leftAfter, left-few}
-use Rattle.plans.specs.declared.Plan.{Plan}
-use Rattle.plans.specs.Planned.{idsTo, plannedSheet}
-use Rattle.points_run.specs.Runs.{epPackingOf}
-use Rattle.layer_plans.specs.Fills.{layerFillOf}
-use Rattle.checker.specs.Words.{allBelow}
-use Rattle.checker.specs.Lines.{short, isListed}
-use Rattle.checker.specs.Findings.{lostWords, missing, wrongWords, wronglyListed}
-use Rattle.checker.proofs.ById.{own-kind}
-use Rattle.checker.proofs.Packed.{packed-distinct}
+use Rattle.plan_unplaced.specs.declared.Left.{Left}
+use Rattle.plan_unplaced.specs.Short.{isShort, namesOf}
+use Rattle.plan_unplaced.specs.Left.{shortKind, flagsOf, leftAfter, left-few}
+use Rattle.plan_sheet.specs.declared.Plan.{Plan}
+use Rattle.plan_sheet.specs.Planned.{idsTo, plannedSheet}
+use Rattle.point_run.specs.Runs.{epPackingOf}
+use Rattle.layer_plan.specs.Fills.{layerFillOf}
+use Rattle.check_packing.specs.Words.{allBelow}
+use Rattle.check_packing.specs.Lines.{short, isListed}
+use Rattle.check_packing.specs.Findings.{lostWords, missing, wrongWords, wronglyListed}
+use Rattle.check_packing.proofs.ById.{own-kind}
+use Rattle.check_packing.proofs.Packed.{packed-distinct}
 use Rattle.plan_laws.specs.Accepted.{Lists, points-accepted, points-lists, layers-accepted, layers-lists}
 use Rattle.plan_laws.specs.Listed.{flag-at, Apart, Entry, flagged-listed, entries}
 

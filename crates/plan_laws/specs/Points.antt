@@ -10,25 +10,26 @@ use lib.Dec.{eqb}
 use lib.Ieee.{Float, lt}
 use Rattle.floats.specs.Ops.{x, y, z, _⊕_, _⊖_}
 use Rattle.domain.specs.Bounds.{mostBoxes}
-use Rattle.domain.specs.Laws.{or-left, or-right, and-left, and-right, when-none}
+use Rattle.lists.specs.Bools.{or-left, or-right, and-left, and-right}
+use Rattle.domain.specs.Laws.{when-none}
 use Rattle.measures.specs.declared.Container.{Container}
 use Rattle.measures.specs.declared.Kind.{Kind}
 use Rattle.measures.specs.Orders.{lengthsIn}
 use Rattle.measures.specs.Faults.{containerFault}
-use Rattle.point_set.specs.declared.ExtremePointSet.{ExtremePointSet}
-use Rattle.point_set.specs.declared.Label.{Label}
-use Rattle.point_set.specs.Triples.{three, put3, sum3, put3-keeps, three-other}
-use Rattle.point_set.specs.Stores.{eps, pointAt, positionAt}
-use Rattle.point_set.specs.Fresh.{startOf, freshOf}
-use Rattle.points.specs.declared.Tried.{Tried}
-use Rattle.points.specs.Fit.{roomOf, inside, fitsAt}
-use Rattle.points.specs.Choose.{bestOf, scan-found}
-use Rattle.points.specs.Grow.{putBox, settled}
-use Rattle.points.specs.Place.{refusalOf, labelOf, placedBy, triedOf, ready}
-use Rattle.points_laws.specs.Least.{Sound, scan-right}
-use Rattle.points_laws.specs.Clean.{Clean}
-use Rattle.points.specs.Choose.{cond-cases}
-use Rattle.points_laws.specs.Reach.{Reached, start, next, reached-clean}
+use Rattle.point_state.specs.declared.ExtremePointSet.{ExtremePointSet}
+use Rattle.point_state.specs.declared.Label.{Label}
+use Rattle.point_state.specs.Triples.{three, put3, sum3, put3-keeps, three-other}
+use Rattle.point_state.specs.Stores.{eps, pointAt, positionAt}
+use Rattle.point_state.specs.Fresh.{startOf, freshOf}
+use Rattle.point_place.specs.declared.Tried.{Tried}
+use Rattle.point_place.specs.Fit.{roomOf, inside, fitsAt}
+use Rattle.point_place.specs.Choose.{bestOf, scan-found}
+use Rattle.point_place.specs.Grow.{putBox, settled}
+use Rattle.point_place.specs.Place.{refusalOf, labelOf, placedBy, triedOf, ready}
+use Rattle.point_laws.specs.Least.{Sound, scan-right}
+use Rattle.point_laws.specs.Clean.{Clean}
+use Rattle.lists.specs.Bools.{cond-cases}
+use Rattle.point_laws.specs.Reach.{Reached, start, next, reached-clean}
 use Rattle.plan_laws.specs.Spots.{Lengths, lengths-in, kind-measures, Sized, sized, InRange, point-axis}
 
 not-false : (b : Bool) → not b ≡ true → b ≡ false

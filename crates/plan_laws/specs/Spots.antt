@@ -13,7 +13,8 @@ use Rattle.floats.specs.Order.{signed, signed-number, le-chain, le-number-l, nl
 use Rattle.floats.specs.Sums.{add-commutes, add-signed}
 use Rattle.floats.specs.Numbers.{add-number, finite-between}
 use Rattle.domain.specs.Ranges.{leastLength, most, isLength, isMeasure, isPosition}
-use Rattle.domain.specs.Laws.{or-left, or-right, and-left, and-right, not-true-of, or-else-first, or-else-second, when-none}
+use Rattle.lists.specs.Bools.{or-left, or-right, and-left, and-right, not-true-of}
+use Rattle.domain.specs.Laws.{or-else-first, or-else-second, when-none}
 use Rattle.domain.specs.Refusals.{when}
 use Rattle.measures.specs.declared.Kind.{Kind}
 use Rattle.measures.specs.declared.Container.{Container}
@@ -21,8 +22,8 @@ use Rattle.measures.specs.Orders.{orders, shareOf, turned, lengthsIn}
 use Rattle.measures.specs.Faults.{recordFault, measureFault, kindFault, containerFault}
 use Rattle.sheet.specs.declared.Line.{Line}
 use Rattle.sheet.specs.Sheets.{lineFault}
-use Rattle.point_set.specs.Stores.{eps}
-use Rattle.points.specs.Choose.{cond-cases}
+use Rattle.point_state.specs.Stores.{eps}
+use Rattle.lists.specs.Bools.{cond-cases}
 use Rattle.plan_laws.specs.Top.{less-top, more-top, end-top, low-none, low-eps, length-signed, measure-signed}
 
 holds : {b : Bool} → b ≡ true → T b

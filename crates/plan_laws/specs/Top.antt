@@ -16,8 +16,8 @@ use Rattle.floats.specs.Compare.{says, said}
 use Rattle.floats.specs.Order.{signed, round-signed, le-chain, nlt→le, lt→le}
 use Rattle.floats.specs.Weak.{true-false}
 use Rattle.domain.specs.Ranges.{leastLength, most, isMeasure}
-use Rattle.domain.specs.Laws.{and-left, and-right}
-use Rattle.point_set.specs.Stores.{eps}
+use Rattle.lists.specs.Bools.{and-left, and-right}
+use Rattle.point_state.specs.Stores.{eps}
 
 -- what is negative is at most what is not
 under : (v w : Float) → signed true v → signed false w → T (le v w)

@@ -1,5 +1,5 @@
 // Replays the sample of checks: the findings on a sheet word by word, with room for all of them and for too few.
-use checker::Checked;
+use check_packing::Checked;
 use sheet::Sheet;
 
 // Words lent: 1,700 slots of five, enough for every sheet of the sample but one.
@@ -32,8 +32,8 @@ fn same_words(b: &[u8], from: usize, words: &[u64; WORDS], n: usize) -> bool {
     let mut at = from;
     let mut i = 0;
     while i < n {
-        same = same & (vectors::u64_at(b, at) == word_at(words, i));
-        at = vectors::past(at, 8);
+        same = same & (replay_vectors::u64_at(b, at) == word_at(words, i));
+        at = replay_vectors::past(at, 8);
         i += 1;
     }
     same
@@ -50,17 +50,17 @@ fn words_of(found: usize) -> usize {
 // Checks the sheet with room for n words.
 fn checked_in(s: Sheet, out: &mut [u64], n: usize) -> Checked {
     if n <= out.len() {
-        return checker::check_packing(s, &mut out[..n]);
+        return check_packing::check_packing(s, &mut out[..n]);
     }
-    checker::check_packing(s, out)
+    check_packing::check_packing(s, out)
 }
 
 // With room for `room` words, which is enough: the findings expected, and the words past them unchanged.
 fn lists(b: &[u8], at: usize, s: Sheet, found: usize, room: usize) -> bool {
-    let listed = vectors::size(vectors::u32_at(b, vectors::past(at, 4)));
+    let listed = replay_vectors::size(replay_vectors::u32_at(b, replay_vectors::past(at, 4)));
     let mut out = [UNTOUCHED; WORDS];
     let c = checked_in(s, &mut out, room);
-    let words = same_words(b, vectors::past(at, 8), &out, words_of(listed));
+    let words = same_words(b, replay_vectors::past(at, 8), &out, words_of(listed));
     (c.refused == 0) & ((c.count == found) & (words & untouched(&out, words_of(found))))
 }
 
@@ -73,7 +73,7 @@ fn refuses(s: Sheet, found: usize, room: usize) -> bool {
 
 // What is expected of the findings stands at `at`.
 fn same_findings(b: &[u8], at: usize, s: Sheet) -> bool {
-    let found = vectors::size(vectors::u32_at(b, at));
+    let found = replay_vectors::size(replay_vectors::u32_at(b, at));
     let n = words_of(found);
     if n == 0 {
         return lists(b, at, s, found, 0) & lists(b, at, s, found, WORDS);
@@ -87,10 +87,10 @@ fn same_findings(b: &[u8], at: usize, s: Sheet) -> bool {
 
 // What is expected of the fill stands at `at`, at the end.
 fn same_fill(b: &[u8], at: usize, s: Sheet) -> bool {
-    let filled = fill::fill_per_thousand(s);
-    let refused = vectors::u32_at(b, at) == filled.refused;
-    let thousandth = vectors::u64_at(b, vectors::past(at, 4)) == filled.fill;
-    let ends = vectors::past(at, 12) == b.len();
+    let filled = fill_thousand::fill_per_thousand(s);
+    let refused = replay_vectors::u32_at(b, at) == filled.refused;
+    let thousandth = replay_vectors::u64_at(b, replay_vectors::past(at, 4)) == filled.fill;
+    let ends = replay_vectors::past(at, 12) == b.len();
     refused & (thousandth & ends)
 }
 
@@ -99,33 +99,33 @@ fn past_words(at: usize, n: usize) -> usize {
     if n > 100000 {
         return at;
     }
-    vectors::past(at, n * 8)
+    replay_vectors::past(at, n * 8)
 }
 
 fn one(b: &[u8]) -> bool {
-    let reading = vectors::sheet_at(b, 0);
+    let reading = replay_vectors::sheet_at(b, 0);
     let s = reading.sheet;
-    let at = vectors::after_bytes(b, 0);
-    let listed = vectors::size(vectors::u32_at(b, vectors::past(at, 4)));
-    let after = past_words(vectors::past(at, 8), words_of(listed));
+    let at = replay_vectors::after_bytes(b, 0);
+    let listed = replay_vectors::size(replay_vectors::u32_at(b, replay_vectors::past(at, 4)));
+    let after = past_words(replay_vectors::past(at, 8), words_of(listed));
     (reading.refused == 0) & (same_findings(b, at, s) & same_fill(b, after, s))
 }
 
-fn all(s: &[u8]) -> vectors::Tally {
-    let n = vectors::u32_at(s, 0);
-    let mut t = vectors::start();
+fn all(s: &[u8]) -> replay_vectors::Tally {
+    let n = replay_vectors::u32_at(s, 0);
+    let mut t = replay_vectors::start();
     let mut i = 0;
     while i < n {
-        let same = (vectors::tag(s, t) == 11) & one(vectors::body(s, t));
-        t = vectors::counted(s, t, same);
+        let same = (replay_vectors::tag(s, t) == 11) & one(replay_vectors::body(s, t));
+        t = replay_vectors::counted(s, t, same);
         i += 1;
     }
     t
 }
 
 fn main() {
-    let mut buf = vectors::buffer();
+    let mut buf = replay_vectors::buffer();
     let n = io::read_full(0, &mut buf);
     let t = all(&buf[..n]);
-    vectors::report(b"check", &buf[..n], t);
+    replay_vectors::report(b"check", &buf[..n], t);
 }

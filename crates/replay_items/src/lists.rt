@@ -1,27 +1,27 @@
 // Instance lists of orders, and the orientations that a sheet's lines give to a list, with as many numbers lent as they need,
 // with more, and with one less.
 use crate::words;
-use instances::Built;
+use layer_instances::Built;
 use sheet::Sheet;
 
 // Whether a call with so many numbers lent is answered as the count at `at` asks, behind which stand n numbers: they are handed
 // out, or for want of room refused with the count.
 fn is_answer(b: &[u8], at: usize, n: usize, got: Built, list: &[u32], room: usize) -> bool {
-    let count = vectors::size(vectors::u32_at(b, at)) == got.count;
-    let ends = words::past_words(vectors::past(at, 4), n) == b.len();
+    let count = replay_vectors::size(replay_vectors::u32_at(b, at)) == got.count;
+    let ends = words::past_words(replay_vectors::past(at, 4), n) == b.len();
     if room < n {
         return (got.refused == 6) & (count & (ends & words::untouched(list, 0)));
     }
-    let same = words::same_words(b, vectors::past(at, 4), list, n);
+    let same = words::same_words(b, replay_vectors::past(at, 4), list, n);
     (got.refused == 0) & (count & (ends & (same & words::untouched(list, n))))
 }
 
 // The instance list with n numbers lent.
 fn build_in(order: Sheet, out: &mut [u32], n: usize) -> Built {
     if n <= out.len() {
-        return instances::build_instances(order, &mut out[..n]);
+        return layer_instances::build_instances(order, &mut out[..n]);
     }
-    instances::build_instances(order, out)
+    layer_instances::build_instances(order, out)
 }
 
 fn built_with(b: &[u8], at: usize, n: usize, order: Sheet, room: usize) -> bool {
@@ -31,22 +31,22 @@ fn built_with(b: &[u8], at: usize, n: usize, order: Sheet, room: usize) -> bool 
 }
 
 pub(crate) fn same_instances(b: &[u8]) -> bool {
-    let reading = vectors::sheet_at(b, 0);
+    let reading = replay_vectors::sheet_at(b, 0);
     let order = reading.sheet;
-    let at = vectors::after_bytes(b, 0);
-    let n = words::in_records(vectors::size(vectors::u32_at(b, at)));
+    let at = replay_vectors::after_bytes(b, 0);
+    let n = words::in_records(replay_vectors::size(replay_vectors::u32_at(b, at)));
     let exact = built_with(b, at, n, order, n);
     let roomy = built_with(b, at, n, order, words::MOST);
-    let short = built_with(b, at, n, order, results::less_one(n));
+    let short = built_with(b, at, n, order, replay_results::less_one(n));
     (reading.refused == 0) & (exact & (roomy & short))
 }
 
 // The orientations with n numbers lent.
 fn seed_in(s: Sheet, records: &[u32], out: &mut [u32], n: usize) -> Built {
     if n <= out.len() {
-        return instances::seed_orientations(s, records, &mut out[..n]);
+        return layer_instances::seed_orientations(s, records, &mut out[..n]);
     }
-    instances::seed_orientations(s, records, out)
+    layer_instances::seed_orientations(s, records, out)
 }
 
 fn seeded_with(b: &[u8], at: usize, n: usize, s: Sheet, records: &[u32], room: usize) -> bool {
@@ -64,24 +64,24 @@ fn refused_by(s: Sheet, records: &[u32], number: u32) -> bool {
 
 // What is expected stands at `at`: a refusal, or 0, a count and the orientations.
 fn same_answer(b: &[u8], at: usize, s: Sheet, records: &[u32]) -> bool {
-    let number = vectors::u32_at(b, at);
-    let result = vectors::past(at, 4);
+    let number = replay_vectors::u32_at(b, at);
+    let result = replay_vectors::past(at, 4);
     if number != 0 {
         return refused_by(s, records, number) & (result == b.len());
     }
-    let n = vectors::size(vectors::u32_at(b, result));
+    let n = replay_vectors::size(replay_vectors::u32_at(b, result));
     let exact = seeded_with(b, result, n, s, records, n);
     let roomy = seeded_with(b, result, n, s, records, words::MOST);
-    let short = seeded_with(b, result, n, s, records, results::less_one(n));
+    let short = seeded_with(b, result, n, s, records, replay_results::less_one(n));
     exact & (roomy & short)
 }
 
 pub(crate) fn same_seeds(b: &[u8]) -> bool {
-    let reading = vectors::sheet_at(b, 0);
+    let reading = replay_vectors::sheet_at(b, 0);
     let s = reading.sheet;
-    let at = vectors::after_bytes(b, 0);
-    let first = vectors::past(at, 4);
-    let threes = words::in_records(vectors::size(vectors::u32_at(b, at)));
+    let at = replay_vectors::after_bytes(b, 0);
+    let first = replay_vectors::past(at, 4);
+    let threes = words::in_records(replay_vectors::size(replay_vectors::u32_at(b, at)));
     let mut records = [0u32; words::MOST];
     words::read_words(b, first, &mut records);
     let list = words::first(&records, threes);

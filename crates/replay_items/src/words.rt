@@ -11,8 +11,8 @@ pub(crate) fn read_words(b: &[u8], from: usize, words: &mut [u32]) {
     let mut at = from;
     let mut i = 0;
     while i < words.len() {
-        words[i] = vectors::u32_at(b, at);
-        at = vectors::past(at, 4);
+        words[i] = replay_vectors::u32_at(b, at);
+        at = replay_vectors::past(at, 4);
         i += 1;
     }
 }
@@ -46,7 +46,7 @@ pub(crate) fn past_words(at: usize, n: usize) -> usize {
     if n > 3 * MOST {
         return at;
     }
-    vectors::past(at, n * 4)
+    replay_vectors::past(at, n * 4)
 }
 
 fn word_at(words: &[u32], i: usize) -> u32 {
@@ -62,8 +62,8 @@ pub(crate) fn same_words(b: &[u8], from: usize, words: &[u32], n: usize) -> bool
     let mut at = from;
     let mut i = 0;
     while i < n {
-        same = same & (vectors::u32_at(b, at) == word_at(words, i));
-        at = vectors::past(at, 4);
+        same = same & (replay_vectors::u32_at(b, at) == word_at(words, i));
+        at = replay_vectors::past(at, 4);
         i += 1;
     }
     same

@@ -1,7 +1,7 @@
 // A new fill of an order's container, the boxes offered to it one by one, and where the cursor is after each.
 use crate::cursors::same_cursor;
-use layers::LayerFill;
-use layers::Placing;
+use layer_fill::LayerFill;
+use layer_fill::Placing;
 use measures::Kind;
 use sheet::Line;
 use sheet::Sheet;
@@ -41,11 +41,12 @@ fn same_answer(b: &[u8], at: usize, p: Placing, id: u32, instance: u32) -> bool 
     let fill = p.next;
     let l = last_line(fill);
     let v = l.at;
-    let took = vectors::u32_at(b, at);
+    let took = replay_vectors::u32_at(b, at);
     if p.placed {
         let who = (l.id == id) & (l.instance == instance) & (l.bin == 0);
-        let way = l.orientation == vectors::u32_at(b, vectors::past(at, 4));
-        return (took == 1) & (who & (way & vectors::same_three(b, vectors::past(at, 8), v)));
+        let way = l.orientation == replay_vectors::u32_at(b, replay_vectors::past(at, 4));
+        return (took == 1)
+            & (who & (way & replay_vectors::same_three(b, replay_vectors::past(at, 8), v)));
     }
     took == 0
 }
@@ -54,32 +55,32 @@ fn same_answer(b: &[u8], at: usize, p: Placing, id: u32, instance: u32) -> bool 
 fn call(b: &[u8], s: Sheet, r: Progress) -> Progress {
     let at = r.at;
     let fill = r.fill;
-    let kind = vectors::kind_of(s, vectors::size(vectors::u32_at(b, at)));
-    let instance = vectors::u32_at(b, vectors::past(at, 4));
-    let orientation = vectors::u32_at(b, vectors::past(at, 8));
+    let kind = replay_vectors::kind_of(s, replay_vectors::size(replay_vectors::u32_at(b, at)));
+    let instance = replay_vectors::u32_at(b, replay_vectors::past(at, 4));
+    let orientation = replay_vectors::u32_at(b, replay_vectors::past(at, 8));
     let p = offered(fill, kind, instance, orientation);
     let next = p.next;
     let stand = next.stand;
     let cursor = stand.cursor;
-    let answer = same_answer(b, vectors::past(at, 12), p, kind.id, instance);
-    let moved = same_cursor(b, vectors::past(at, 44), cursor);
+    let answer = same_answer(b, replay_vectors::past(at, 12), p, kind.id, instance);
+    let moved = same_cursor(b, replay_vectors::past(at, 44), cursor);
     Progress {
         same: r.same & ((p.refused == 0) & (answer & moved)),
         fill: next,
-        at: vectors::past(at, 84),
+        at: replay_vectors::past(at, 84),
     }
 }
 
 // All the calls, from a new fill on.
 fn run(b: &[u8], s: Sheet, at: usize) -> Progress {
-    let n = vectors::u32_at(b, at);
+    let n = replay_vectors::u32_at(b, at);
     let container = s.container;
     let opening = LayerFill::new(container);
     let fill = opening.fill;
     let mut r = Progress {
         same: opening.refused == 0,
         fill,
-        at: vectors::past(at, 4),
+        at: replay_vectors::past(at, 4),
     };
     let mut i = 0;
     while i < n {
@@ -90,18 +91,18 @@ fn run(b: &[u8], s: Sheet, at: usize) -> Progress {
 }
 
 pub(crate) fn same_calls(b: &[u8]) -> bool {
-    let reading = vectors::sheet_at(b, 0);
+    let reading = replay_vectors::sheet_at(b, 0);
     let s = reading.sheet;
-    let r = run(b, s, vectors::after_bytes(b, 0));
+    let r = run(b, s, replay_vectors::after_bytes(b, 0));
     let at = r.at;
     let fill = r.fill;
     let stand = fill.stand;
     let count = fill.placed();
     let ratio = fill.utilization();
-    let placed = vectors::size(vectors::u32_at(b, at)) == count.placed;
-    let full = vectors::same_float(b, vectors::past(at, 4), ratio.utilization);
-    let volume = vectors::same_float(b, vectors::past(at, 12), stand.volume);
-    let mass = vectors::same_float(b, vectors::past(at, 20), stand.mass);
-    let ends = vectors::past(at, 28) == b.len();
+    let placed = replay_vectors::size(replay_vectors::u32_at(b, at)) == count.placed;
+    let full = replay_vectors::same_float(b, replay_vectors::past(at, 4), ratio.utilization);
+    let volume = replay_vectors::same_float(b, replay_vectors::past(at, 12), stand.volume);
+    let mass = replay_vectors::same_float(b, replay_vectors::past(at, 20), stand.mass);
+    let ends = replay_vectors::past(at, 28) == b.len();
     (reading.refused == 0) & (r.same & (placed & (full & (volume & (mass & ends)))))
 }

@@ -13,21 +13,21 @@ fn one(tag: u32, b: &[u8]) -> bool {
     (tag == 3) & fills::same_fill(b)
 }
 
-fn all(s: &[u8]) -> vectors::Tally {
-    let n = vectors::u32_at(s, 0);
-    let mut t = vectors::start();
+fn all(s: &[u8]) -> replay_vectors::Tally {
+    let n = replay_vectors::u32_at(s, 0);
+    let mut t = replay_vectors::start();
     let mut i = 0;
     while i < n {
-        let same = one(vectors::tag(s, t), vectors::body(s, t));
-        t = vectors::counted(s, t, same);
+        let same = one(replay_vectors::tag(s, t), replay_vectors::body(s, t));
+        t = replay_vectors::counted(s, t, same);
         i += 1;
     }
     t
 }
 
 fn main() {
-    let mut buf = vectors::buffer();
+    let mut buf = replay_vectors::buffer();
     let n = io::read_full(0, &mut buf);
     let t = all(&buf[..n]);
-    vectors::report(b"layers", &buf[..n], t);
+    replay_vectors::report(b"layers", &buf[..n], t);
 }

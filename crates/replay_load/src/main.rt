@@ -1,5 +1,5 @@
 // Replays the samples of load files: the refusal that each gets, and that writing what was read gives the same bytes.
-use load_file::Written;
+use file_laws::Written;
 use sheet::Sheet;
 
 // What stands in lent bytes that no call is to change.
@@ -33,9 +33,9 @@ fn untouched(a: &[u8]) -> bool {
 // Writes the sheet with room for n bytes.
 fn write_in(s: Sheet, out: &mut [u8], n: usize) -> Written {
     if n <= out.len() {
-        return load_file::write_sheet(s, &mut out[..n]);
+        return file_laws::write_sheet(s, &mut out[..n]);
     }
-    load_file::write_sheet(s, out)
+    file_laws::write_sheet(s, out)
 }
 
 // With one byte less than the file needs: refusal 6, the length needed, and nothing changed.
@@ -54,8 +54,8 @@ fn written_back(s: Sheet, f: &[u8], room: usize) -> bool {
     let mut out = [UNTOUCHED; 60064];
     let n = f.len();
     let w = write_in(s, &mut out, room);
-    let same = same_bytes(vectors::part(&out, 0, n), f);
-    let rest = untouched(vectors::part(&out, n, 60064));
+    let same = same_bytes(replay_vectors::part(&out, 0, n), f);
+    let rest = untouched(replay_vectors::part(&out, n, 60064));
     (w.refused == 0) & (w.length == n) & same & rest
 }
 
@@ -64,14 +64,14 @@ fn round_trip(s: Sheet, f: &[u8]) -> bool {
 }
 
 fn one(b: &[u8]) -> bool {
-    let n = vectors::size(vectors::u32_at(b, 0));
-    let f = vectors::part(b, 4, n);
-    let r = load_file::read_sheet(f);
-    let expected = vectors::u32_at(b, vectors::past(4, n));
+    let n = replay_vectors::size(replay_vectors::u32_at(b, 0));
+    let f = replay_vectors::part(b, 4, n);
+    let r = file_laws::read_sheet(f);
+    let expected = replay_vectors::u32_at(b, replay_vectors::past(4, n));
     if r.refused != expected {
         return false;
     }
-    if vectors::past(8, n) != b.len() {
+    if replay_vectors::past(8, n) != b.len() {
         return false;
     }
     if r.refused != 0 {
@@ -81,23 +81,23 @@ fn one(b: &[u8]) -> bool {
     round_trip(s, f)
 }
 
-fn all(s: &[u8]) -> vectors::Tally {
-    let n = vectors::u32_at(s, 0);
-    let mut t = vectors::start();
+fn all(s: &[u8]) -> replay_vectors::Tally {
+    let n = replay_vectors::u32_at(s, 0);
+    let mut t = replay_vectors::start();
     let mut i = 0;
     while i < n {
-        let same = (vectors::tag(s, t) == 12) & one(vectors::body(s, t));
-        t = vectors::counted(s, t, same);
+        let same = (replay_vectors::tag(s, t) == 12) & one(replay_vectors::body(s, t));
+        t = replay_vectors::counted(s, t, same);
         i += 1;
     }
     t
 }
 
 fn replay(fd: i32, name: &[u8]) {
-    let mut buf = vectors::buffer();
+    let mut buf = replay_vectors::buffer();
     let n = io::read_full(fd, &mut buf);
     let t = all(&buf[..n]);
-    vectors::report(name, &buf[..n], t);
+    replay_vectors::report(name, &buf[..n], t);
 }
 
 fn main() {

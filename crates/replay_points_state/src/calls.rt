@@ -1,9 +1,9 @@
 // A fresh state of an order's container, the boxes tried in it one by one, and what is stored at the end.
 use crate::stored;
 use measures::Kind;
-use point_set::ExtremePointSet;
-use points::Answer;
-use points::Tried;
+use point_place::Answer;
+use point_place::Tried;
+use point_state::ExtremePointSet;
 use sheet::Sheet;
 
 // Whether all was as expected so far, the state, and the place of what comes next.
@@ -15,26 +15,27 @@ struct Progress {
 
 // Whether the box placed last is this one.
 fn same_last(b: &[u8], at: usize, set: ExtremePointSet, id: u32, instance: u32) -> bool {
-    let n = point_set::placed_count(set);
+    let n = point_state::placed_count(set);
     if n.count == 0 {
         return false;
     }
-    let found = point_set::placed_box(set, n.count - 1);
+    let found = point_state::placed_box(set, n.count - 1);
     let last = found.placed;
     let position = last.position;
     let who = (last.id == id) & (last.instance == instance);
-    found.found & (who & vectors::same_three(b, at, position))
+    found.found & (who & replay_vectors::same_three(b, at, position))
 }
 
 // Whether the answer is what is expected at `at`.
 fn same_answer(b: &[u8], at: usize, tried: Tried, id: u32, instance: u32) -> bool {
     let next = tried.next;
     let v = tried.at;
-    let took = vectors::u32_at(b, at);
-    let place = vectors::past(at, 4);
-    let live = point_set::len(next);
-    let count = vectors::size(vectors::u32_at(b, vectors::past(at, 28))) == live.count;
-    let there = vectors::same_three(b, place, v);
+    let took = replay_vectors::u32_at(b, at);
+    let place = replay_vectors::past(at, 4);
+    let live = point_state::len(next);
+    let count = replay_vectors::size(replay_vectors::u32_at(b, replay_vectors::past(at, 28)))
+        == live.count;
+    let there = replay_vectors::same_three(b, place, v);
     let answer = tried.answer;
     match answer {
         Answer::Stands => {
@@ -49,29 +50,29 @@ fn same_answer(b: &[u8], at: usize, tried: Tried, id: u32, instance: u32) -> boo
 fn call(b: &[u8], s: Sheet, r: Progress) -> Progress {
     let at = r.at;
     let set = r.set;
-    let kind = vectors::kind_of(s, vectors::size(vectors::u32_at(b, at)));
-    let instance = vectors::u32_at(b, vectors::past(at, 4));
-    let orientation = vectors::u32_at(b, vectors::past(at, 8));
-    let tried = points::try_place(set, kind, instance, orientation);
+    let kind = replay_vectors::kind_of(s, replay_vectors::size(replay_vectors::u32_at(b, at)));
+    let instance = replay_vectors::u32_at(b, replay_vectors::past(at, 4));
+    let orientation = replay_vectors::u32_at(b, replay_vectors::past(at, 8));
+    let tried = point_place::try_place(set, kind, instance, orientation);
     let next = tried.next;
-    let same = same_answer(b, vectors::past(at, 12), tried, kind.id, instance);
+    let same = same_answer(b, replay_vectors::past(at, 12), tried, kind.id, instance);
     Progress {
         same: r.same & same,
         set: next,
-        at: vectors::past(at, 44),
+        at: replay_vectors::past(at, 44),
     }
 }
 
 // All the calls, from a fresh state on.
 fn run(b: &[u8], s: Sheet, at: usize) -> Progress {
-    let n = vectors::u32_at(b, at);
+    let n = replay_vectors::u32_at(b, at);
     let container = s.container;
-    let fresh = point_set::new(container);
+    let fresh = point_state::new(container);
     let set = fresh.set;
     let mut r = Progress {
         same: fresh.refused == 0,
         set,
-        at: vectors::past(at, 4),
+        at: replay_vectors::past(at, 4),
     };
     let mut i = 0;
     while i < n {
@@ -83,28 +84,28 @@ fn run(b: &[u8], s: Sheet, at: usize) -> Progress {
 
 // What is expected after all calls, from `at` on.
 fn same_end(b: &[u8], at: usize, set: ExtremePointSet) -> bool {
-    let boxes = point_set::placed_count(set);
-    let volume = point_set::total_volume(set);
-    let mass = point_set::total_mass(set);
-    let live = point_set::len(set);
-    let empty = point_set::is_empty(set);
-    let n = vectors::size(vectors::u32_at(b, vectors::past(at, 20)));
-    let list = vectors::past(at, 24);
+    let boxes = point_state::placed_count(set);
+    let volume = point_state::total_volume(set);
+    let mass = point_state::total_mass(set);
+    let live = point_state::len(set);
+    let empty = point_state::is_empty(set);
+    let n = replay_vectors::size(replay_vectors::u32_at(b, replay_vectors::past(at, 20)));
+    let list = replay_vectors::past(at, 24);
     let fair = (boxes.refused == 0) & ((volume.refused == 0) & (mass.refused == 0));
-    let placed = vectors::size(vectors::u32_at(b, at)) == boxes.count;
-    let filled = vectors::same_float(b, vectors::past(at, 4), volume.amount);
-    let heavy = vectors::same_float(b, vectors::past(at, 12), mass.amount);
+    let placed = replay_vectors::size(replay_vectors::u32_at(b, at)) == boxes.count;
+    let filled = replay_vectors::same_float(b, replay_vectors::past(at, 4), volume.amount);
+    let heavy = replay_vectors::same_float(b, replay_vectors::past(at, 12), mass.amount);
     let held = stored::same_points(b, list, n, &set.points, live.count);
     fair & (placed & (filled & (heavy & (held & (empty.holds == (n == 0))))))
 }
 
 pub(crate) fn same_calls(b: &[u8]) -> bool {
-    let reading = vectors::sheet_at(b, 0);
+    let reading = replay_vectors::sheet_at(b, 0);
     let s = reading.sheet;
-    let r = run(b, s, vectors::after_bytes(b, 0));
+    let r = run(b, s, replay_vectors::after_bytes(b, 0));
     let at = r.at;
     let set = r.set;
-    let n = vectors::size(vectors::u32_at(b, vectors::past(at, 20)));
-    let ends = stored::past_points(vectors::past(at, 24), n) == b.len();
+    let n = replay_vectors::size(replay_vectors::u32_at(b, replay_vectors::past(at, 20)));
+    let ends = stored::past_points(replay_vectors::past(at, 24), n) == b.len();
     (reading.refused == 0) & (r.same & (same_end(b, at, set) & ends))
 }

@@ -10,8 +10,10 @@ use borrow.Author.Tests.{ltb-false}
 use Rattle.floats.specs.Ops.{x, y, z}
 use Rattle.domain.specs.Bounds.{mostKinds, mostBoxes, mostLines, mostUnplaced}
 use Rattle.domain.specs.Ranges.{isLength, isMeasure, isLimit, isPosition}
-use Rattle.domain.specs.Refusals.{when, orElse, firstBelow, anyBelow, sumBelow}
-use Rattle.domain.specs.Laws.{or-left, or-right, not-true-of, or-else-first, or-else-second, when-none, first-none}
+use Rattle.lists.specs.Below.{anyBelow, sumBelow}
+use Rattle.domain.specs.Refusals.{when, orElse, firstBelow}
+use Rattle.lists.specs.Bools.{or-left, or-right, not-true-of}
+use Rattle.domain.specs.Laws.{or-else-first, or-else-second, when-none, first-none}
 use Rattle.measures.specs.declared.Kind.{Kind}
 use Rattle.measures.specs.Faults.{recordFault, measureFault, kindFault, containerFault}
 use Rattle.sheet.specs.declared.Counts.{Counts}

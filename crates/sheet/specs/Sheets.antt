@@ -3,12 +3,14 @@ use Prim.Native.Nat.{ℕ, zero, suc}
 use mathlib.Core.Bool.{Bool, not, _&&_, _||_, cond}
 use mathlib.Core.List.{List, [], _∷_}
 use lib.Dec.{eqb, ltb, leb}
-use lib.ListN.{getD, set, replicate}
+use lib.ListN.{getD, replicate}
 use lib.Ieee.{Float, nan}
-use Rattle.floats.specs.Ops.{none, x, y, z}
+use Rattle.floats.specs.Ops.{none, nowhere, x, y, z}
+use Rattle.lists.specs.Table.{table}
 use Rattle.domain.specs.Bounds.{mostKinds, mostBoxes, mostLines, mostUnplaced}
 use Rattle.domain.specs.Ranges.{isPosition}
-use Rattle.domain.specs.Refusals.{when, orElse, firstBelow, anyBelow, sumBelow}
+use Rattle.lists.specs.Below.{anyBelow, sumBelow, isAt}
+use Rattle.domain.specs.Refusals.{when, orElse, firstBelow}
 use Rattle.measures.specs.declared.Kind.{Kind}
 use Rattle.measures.specs.declared.Container.{Container}
 use Rattle.measures.specs.Faults.{kindFault, containerFault}
@@ -24,20 +26,17 @@ abbrev pub noLine : Line
 noLine = record { id = 0; instance = 0; orientation = 0; bin = 0; at = [] }
 
 -- ---- cells of a sheet past those that count are blank, and a sheet with nothing in it is blank throughout: it is refused by 3 wherever it is handed in
-abbrev pub blankVector : List Float
-blankVector = none ∷ none ∷ none ∷ []
-
 abbrev pub blankKind : Kind
-blankKind = record { id = 0; quantity = 0; size = blankVector; mass = none; rule = 0; massed = 0; filler = 0 }
+blankKind = record { id = 0; quantity = 0; size = nowhere; mass = none; rule = 0; massed = 0; filler = 0 }
 
 abbrev pub blankLine : Line
-blankLine = record { id = 0; instance = 0; orientation = 0; bin = 0; at = blankVector }
+blankLine = record { id = 0; instance = 0; orientation = 0; bin = 0; at = nowhere }
 
 unfoldable pub emptySheet : Sheet
 emptySheet =
     record {
       many = record { kinds = 0; lines = 0; unplaced = 0 };
-      container = record { size = blankVector; margin = none; spacing = none; limit = none };
+      container = record { size = nowhere; margin = none; spacing = none; limit = none };
       kinds = replicate mostKinds blankKind;
       lines = replicate mostLines blankLine;
       unplaced = replicate mostUnplaced 0;
@@ -58,18 +57,13 @@ abbrev pub overCount : Counts → Bool
 overCount m = ltb mostKinds (m .kinds) || (ltb mostLines (m .lines) || ltb mostUnplaced (m .unplaced))
 
 -- ---- 01: "then kind by kind 4, 3, 5"
--- entry j of the list is this id
-unfoldable pub isId : List ℕ → ℕ → ℕ → Bool
-isId ids id j = eqb (getD ids j 0) id
-
 -- the id is one of the first n, of a list for as many ids as there may be kinds
 unfoldable pub among : List ℕ → ℕ → ℕ → Bool
-among ids id n = leb n mostKinds && anyBelow (isId ids id) n
+among ids id n = leb n mostKinds && anyBelow (isAt ids id) n
 
 -- the ids of the first n kinds
-unfoldable pub idsBelow : List Kind → ℕ → List ℕ
-idsBelow kinds zero = replicate mostKinds 0
-idsBelow kinds (suc n) = set (idsBelow kinds n) n (getD kinds n noKind .id)
+abbrev pub idsBelow : List Kind → ℕ → List ℕ
+idsBelow kinds n = table 0 mostKinds (λ k. getD kinds k noKind .id) n
 
 -- kind j has kind k's id
 unfoldable pub sameId : List Kind → ℕ → ℕ → Bool

@@ -4,8 +4,9 @@ ghost use mathlib.Core.Path.{_≡_};
 ghost use Prim.Native.Nat.{_≤_, _<_};
 ghost use lib.ListN.{getD};
 ghost use Rattle.domain.specs.Bounds.{mostKinds, mostLines};
-ghost use Rattle.domain.specs.Refusals.{firstBelow, sumBelow};
-ghost use Rattle.sheet.specs.Sheets.{emptySheet, overCount, among, idsBelow, quantityOf, boxesIn, kindFaultIn, lineFault, lineFaultIn, sheetRefusal};
+ghost use Rattle.lists.specs.Below.{sumBelow};
+ghost use Rattle.domain.specs.Refusals.{firstBelow};
+ghost use Rattle.sheet.specs.Sheets.{blankKind, blankLine, emptySheet, overCount, among, idsBelow, quantityOf, boxesIn, kindFaultIn, lineFault, lineFaultIn, sheetRefusal};
 use measures::Container;
 use measures::Kind;
 
@@ -33,6 +34,34 @@ pub struct Sheet {
     pub unplaced: [u32; domain::MOST_UNPLACED],
 }
 
+// A kind that says nothing: what a store of kinds has past those that count.
+pub fn blank_kind() -> Kind
+    ensures { λ r. ⌜ r ≡ blankKind ⌝ }
+{
+    Kind {
+        id: 0,
+        quantity: 0,
+        size: [0.0, 0.0, 0.0],
+        mass: 0.0,
+        rule: 0,
+        massed: 0,
+        filler: 0,
+    }
+}
+
+// A line that says nothing: what a store of lines has past those that count.
+pub fn blank_line() -> Line
+    ensures { λ r. ⌜ r ≡ blankLine ⌝ }
+{
+    Line {
+        id: 0,
+        instance: 0,
+        orientation: 0,
+        bin: 0,
+        at: [0.0, 0.0, 0.0],
+    }
+}
+
 // A sheet with nothing in it. Its container has no size, so it is refused by 3 wherever it is handed in.
 pub fn empty_sheet() -> Sheet
     ensures { λ r. ⌜ r ≡ emptySheet ⌝ }
@@ -49,22 +78,8 @@ pub fn empty_sheet() -> Sheet
         spacing: 0.0,
         limit: 0.0,
     };
-    let kind = Kind {
-        id: 0,
-        quantity: 0,
-        size: none,
-        mass: 0.0,
-        rule: 0,
-        massed: 0,
-        filler: 0,
-    };
-    let line = Line {
-        id: 0,
-        instance: 0,
-        orientation: 0,
-        bin: 0,
-        at: none,
-    };
+    let kind = blank_kind();
+    let line = blank_line();
     Sheet {
         many,
         container,

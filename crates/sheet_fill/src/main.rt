@@ -14,13 +14,13 @@ fn say(word: &[u8], n: u64) {
 fn main() {
     let mut bytes = [0u8; BYTES];
     let n = io::read_full(STDIN_FILENO, &mut bytes);
-    let read = load_file::read_sheet(&bytes[..n]);
+    let read = file_laws::read_sheet(&bytes[..n]);
     if read.refused != 0 {
         say(b"refused ", read.refused as u64);
         return;
     }
     let sheet = read.sheet;
-    let filled = fill::fill_per_thousand(sheet);
+    let filled = fill_thousand::fill_per_thousand(sheet);
     if filled.refused != 0 {
         say(b"refused ", filled.refused as u64);
         return;

@@ -3,8 +3,8 @@ use mathlib.Core.Bool.{Bool, cond}
 use mathlib.Core.List.{List}
 use Prim.Native.Nat.{ℕ}
 use lib.Dec.{eqb}
-use Rattle.checker.specs.Check.{checkedOf, cellsOf}
-use Rattle.load_file.specs.Reading.{readOf}
+use Rattle.check_packing.specs.Check.{checkedOf, cellsOf}
+use Rattle.file_laws.specs.Reading.{readOf}
 use Rattle.waikurpeho.specs.Answer.{answerOf}
 
 -- the count of findings, or the file's refusal, or 6 and the slots needed

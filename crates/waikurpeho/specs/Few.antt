@@ -10,7 +10,7 @@ use lib.Dec.{eqb, ltb, leb}
 use lib.ListN.{length, length-append}
 use lib.Ieee.{Float, binary64, toBits, lt}
 use Rattle.floats.specs.Ops.{_⊕_, none}
-use Rattle.domain.specs.Refusals.{anyBelow}
+use Rattle.lists.specs.Below.{anyBelow}
 use Rattle.measures.specs.declared.Kind.{Kind}
 use Rattle.measures.specs.declared.Container.{Container}
 use Rattle.measures.specs.Orders.{shareOf}
@@ -18,15 +18,15 @@ use Rattle.sheet.specs.declared.Line.{Line}
 use Rattle.sheet.specs.declared.Sheet.{Sheet}
 use Rattle.sheet.specs.Sheets.{kindAt, lineAt, unplacedAt, sheetRefusal}
 use Rattle.sheet.specs.Accepted.{Few, Accepted, accepted}
-use Rattle.pairs.specs.declared.Verdict.{Verdict}
-use Rattle.pairs.specs.declared.Verdict.the-variants.{Apart, Overlap, TooClose}
-use Rattle.pairs.specs.Tolerance.{toleranceOf}
-use Rattle.checker.specs.Words.{onlyIf, allBelow}
-use Rattle.checker.specs.Lines.{kindOf, isKnown, known, kindFor, inRange, repeats, short, isListed, boxOf, tolerance, mass}
-use Rattle.checker.specs.Findings.{inside, nameWords, repeatWords, placeWords, repeatFinding, lineFindings, verdictWords, verdictOn, pairWords, pairFinding, pairsFrom, massWords, massFinding, lostWords, missing, wrongWords, wronglyListed, findings}
-use Rattle.checker.specs.Check.{countOf, checkedOf}
-use Rattle.write_file.specs.declared.Written.{Written}
-use Rattle.load_file.specs.Writing.{fileLength, writtenOf}
+use Rattle.check_pair.specs.declared.Verdict.{Verdict}
+use Rattle.check_pair.specs.declared.Verdict.the-variants.{Apart, Overlap, TooClose}
+use Rattle.check_pair.specs.Tolerance.{toleranceOf}
+use Rattle.check_packing.specs.Words.{onlyIf, allBelow}
+use Rattle.check_packing.specs.Lines.{kindOf, isKnown, known, kindFor, inRange, repeats, short, isListed, boxOf, tolerance, mass}
+use Rattle.check_packing.specs.Findings.{inside, nameWords, repeatWords, placeWords, repeatFinding, lineFindings, verdictWords, verdictOn, pairWords, pairFinding, pairsFrom, massWords, massFinding, lostWords, missing, wrongWords, wronglyListed, findings}
+use Rattle.check_packing.specs.Check.{countOf, checkedOf}
+use Rattle.file_write.specs.declared.Written.{Written}
+use Rattle.file_laws.specs.Writing.{fileLength, writtenOf}
 
 only-few : (t : Bool) (ws : List ℕ) (b : ℕ) → length ws ≤ b → length (onlyIf t ws) ≤ b
 only-few true ws b h = h

@@ -1,10 +1,13 @@
 -- The fill call: a load file is read, then measured.
-use mathlib.Core.Bool.{cond}
+use mathlib.Core.Path.{_≡_, refl}
+use mathlib.Core.Bool.{Bool, true, false, cond}
 use mathlib.Core.List.{List}
 use Prim.Native.Nat.{ℕ}
 use lib.Dec.{eqb}
-use Rattle.fill.specs.Fill.{fillOf}
-use Rattle.load_file.specs.Reading.{readOf}
+use Rattle.fill_thousand.specs.Fill.{fillOf}
+use Rattle.file_laws.specs.Reading.{readOf}
+use Rattle.file_read.specs.Reading.{refusalOf}
+use Rattle.fill_file.specs.FileFill.{fileFill}
 use Rattle.waikurpeho.specs.Answer.{answerOf}
 
 -- the count is 0: the fill can pass 32 bits, so it goes into a lent word of its own
@@ -17,3 +20,21 @@ fillAfter file old =
     cond (eqb (readOf file .refused) 0)
     (cond (eqb (fillOf (readOf file .sheet) .refused) 0) (fillOf (readOf file .sheet) .fill) old)
     old
+
+-- ---- both by the fill of the file's bytes
+
+pub answer-is : (file : List ℕ) → fillAnswer file ≡ answerOf (fileFill file .refused) 0
+unfolding fillAnswer fileFill readOf
+answer-is file = go (eqb (refusalOf file) 0) refl
+  where
+    go : (b : Bool) → eqb (refusalOf file) 0 ≡ b → fillAnswer file ≡ answerOf (fileFill file .refused) 0
+    go true e = rw e
+    go false e = rw e
+
+pub after-is : (file : List ℕ) (old : ℕ) → fillAfter file old ≡ cond (eqb (fileFill file .refused) 0) (fileFill file .fill) old
+unfolding fillAfter fileFill readOf
+after-is file old = go (eqb (refusalOf file) 0) refl
+  where
+    go : (b : Bool) → eqb (refusalOf file) 0 ≡ b → fillAfter file old ≡ cond (eqb (fileFill file .refused) 0) (fileFill file .fill) old
+    go true e = rw e
+    go false e = rw (e, e)

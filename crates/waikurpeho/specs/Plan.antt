@@ -6,11 +6,11 @@ use lib.Dec.{eqb}
 use lib.ListN.{length, set}
 use lib.Ieee.{binary64, toBits}
 use Rattle.sheet.specs.declared.Sheet.{Sheet}
-use Rattle.plans.specs.declared.Plan.{Plan}
-use Rattle.plans.specs.declared.PlanSheet.{PlanSheet}
-use Rattle.plans.specs.Planned.{sheetFrom}
-use Rattle.load_file.specs.Reading.{readOf}
-use Rattle.load_file.specs.Writing.{writtenOf, bytesAfter}
+use Rattle.plan_sheet.specs.declared.Plan.{Plan}
+use Rattle.plan_sheet.specs.declared.PlanSheet.{PlanSheet}
+use Rattle.plan_sheet.specs.Planned.{sheetFrom}
+use Rattle.file_laws.specs.Reading.{readOf}
+use Rattle.file_laws.specs.Writing.{writtenOf, bytesAfter}
 use Rattle.waikurpeho.specs.Answer.{answerOf}
 
 -- the planned sheet's length, or the plan's refusal, or 6 and the length needed

@@ -5,11 +5,11 @@ ghost use Prim.Native.Nat.{_<_};
 ghost use lib.ListN.{length};
 ghost use Rattle.waikurpeho.specs.Answer.{answerOf};
 ghost use Rattle.waikurpeho.specs.Check.{checkAnswer, checkCells};
-ghost use Rattle.points_run.specs.Runs.{epPackingOf};
-ghost use Rattle.layers_run.specs.Fills.{layerFillOf};
+ghost use Rattle.point_run.specs.Runs.{epPackingOf};
+ghost use Rattle.layer_run.specs.Fills.{layerFillOf};
 ghost use Rattle.waikurpeho.specs.Plan.{planAnswer, planBytes, planFigures, orderAnswer, orderBytes, orderFigures};
 ghost use Rattle.waikurpeho.specs.Fill.{fillAnswer, fillAfter};
-use plans::Plan;
+use plan_sheet::Plan;
 use sheet::Sheet;
 
 // A refusal number and a count in one word.
@@ -25,12 +25,12 @@ fn answer(refused: u32, count: usize) -> u64
 pub extern "C" fn wk_check(sheet: &[u8], findings: &mut [u64]) -> u64
     ensures { λ r. ⌜ (r ≡ checkAnswer (now (sheet .entry)) (now (findings .entry))) × (now (findings .exit) ≡ checkCells (now (sheet .entry)) (now (findings .entry))) ⌝ }
 {
-    let read = load_file::read_sheet(sheet);
+    let read = file_laws::read_sheet(sheet);
     if read.refused != 0 {
         return answer(read.refused, 0);
     }
     let s = read.sheet;
-    let c = checker::check_packing(s, findings);
+    let c = check_packing::check_packing(s, findings);
     answer(c.refused, c.count)
 }
 
@@ -39,12 +39,12 @@ pub extern "C" fn wk_check(sheet: &[u8], findings: &mut [u64]) -> u64
 fn write_plan(order: Sheet, plan: Plan, sheet: &mut [u8], figures: &mut [u64; 2]) -> u64
     ensures { λ r. ⌜ (r ≡ planAnswer order plan (length (now (sheet .entry)))) × (now (sheet .exit) ≡ planBytes order plan (now (sheet .entry))) × (now (figures .exit) ≡ planFigures order plan (length (now (sheet .entry))) (now (figures .entry))) ⌝ }
 {
-    let planned = plans::planned_sheet(order, plan);
+    let planned = plan_sheet::planned_sheet(order, plan);
     if planned.refused != 0 {
         return answer(planned.refused, 0);
     }
     let s = planned.sheet;
-    let w = load_file::write_sheet(s, sheet);
+    let w = file_laws::write_sheet(s, sheet);
     if w.refused != 0 {
         return answer(w.refused, w.length);
     }
@@ -63,12 +63,12 @@ pub extern "C" fn wk_plan_points(
 ) -> u64
     ensures { λ r. ⌜ (r ≡ orderAnswer epPackingOf (now (order .entry)) consider (length (now (sheet .entry)))) × (now (sheet .exit) ≡ orderBytes epPackingOf (now (order .entry)) consider (now (sheet .entry))) × (now (figures .exit) ≡ orderFigures epPackingOf (now (order .entry)) consider (length (now (sheet .entry))) (now (figures .entry))) ⌝ }
 {
-    let read = load_file::read_sheet(order);
+    let read = file_laws::read_sheet(order);
     if read.refused != 0 {
         return answer(read.refused, 0);
     }
     let o = read.sheet;
-    let p = points_run::ep_packing(o, consider);
+    let p = point_run::ep_packing(o, consider);
     write_plan(o, p, sheet, figures)
 }
 
@@ -82,26 +82,21 @@ pub extern "C" fn wk_plan_layers(
 ) -> u64
     ensures { λ r. ⌜ (r ≡ orderAnswer layerFillOf (now (order .entry)) consider (length (now (sheet .entry)))) × (now (sheet .exit) ≡ orderBytes layerFillOf (now (order .entry)) consider (now (sheet .entry))) × (now (figures .exit) ≡ orderFigures layerFillOf (now (order .entry)) consider (length (now (sheet .entry))) (now (figures .entry))) ⌝ }
 {
-    let read = load_file::read_sheet(order);
+    let read = file_laws::read_sheet(order);
     if read.refused != 0 {
         return answer(read.refused, 0);
     }
     let o = read.sheet;
-    let p = layers_run::layer_fill(o, consider);
+    let p = layer_run::layer_fill(o, consider);
     write_plan(o, p, sheet, figures)
 }
 
-// The fill per thousand of a load file, stored in `fill`.
+// The fill per thousand of a load file, stored in `fill_thousand`.
 #[no_mangle]
 pub extern "C" fn wk_fill(sheet: &[u8], fill: &mut u64) -> u64
     ensures { λ r. ⌜ (r ≡ fillAnswer (now (sheet .entry))) × (now (fill .exit) ≡ fillAfter (now (sheet .entry)) (now (fill .entry))) ⌝ }
 {
-    let read = load_file::read_sheet(sheet);
-    if read.refused != 0 {
-        return answer(read.refused, 0);
-    }
-    let s = read.sheet;
-    let f = fill::fill_per_thousand(s);
+    let f = fill_file::fill_of(sheet);
     if f.refused != 0 {
         return answer(f.refused, 0);
     }

@@ -4,13 +4,13 @@ use Prim.Native.Nat.{_≤_, _-_}
 use native.Mathlib.Omega.{arith}
 use native.Mathlib.Numerals.{add-one}
 use borrow.Author.Tests.{lt-leb, le-leb}
-use Rattle.domain.specs.Refusals.{anyBelow}
-use Rattle.sheet.specs.Sheets.{isId, among}
+use Rattle.lists.specs.Below.{anyBelow, isAt}
+use Rattle.sheet.specs.Sheets.{among}
 use Rattle.sheet.proofs.is_among.Statement.{statement}
 use Rattle.sheet.proofs.is_among.Tie as tie
 
 abbrev Inv-loop : tie.InvT-loop
-Inv-loop ids n id found₀ j₀ found j = (j ≤ n) × (found ≡ anyBelow (isId ids id) j)
+Inv-loop ids n id found₀ j₀ found j = (j ≤ n) × (found ≡ anyBelow (isAt ids id) j)
 
 abbrev μ-loop : tie.MeasureT-loop
 μ-loop ids n id found₀ j₀ found j = n - j
@@ -20,7 +20,7 @@ unfolding anyBelow
 loop-holds c = (omega arith, refl)
 
 loop-again : tie.Need-loop-again Inv-loop μ-loop
-unfolding anyBelow isId
+unfolding anyBelow isAt
 loop-again c = (omega arith, rw add-one (cc))
 
 returns : tie.Need-returns Inv-loop μ-loop

@@ -3,6 +3,7 @@ use mathlib.Core.Path.{_≡_, refl}
 use Prim.Native.Nat.{_≤_, _-_}
 use native.Mathlib.Omega.{arith}
 use native.Mathlib.Numerals.{add-one}
+use Rattle.lists.specs.Table.{filled, table}
 use Rattle.sheet.specs.Sheets.{idsBelow}
 use Rattle.sheet.proofs.kind_ids.Statement.{statement}
 use Rattle.sheet.proofs.kind_ids.Tie as tie
@@ -14,11 +15,11 @@ abbrev μ-loop : tie.MeasureT-loop
 μ-loop n kinds ids₀ k₀ ids k = n - k
 
 loop-holds : tie.Need-loop-holds Inv-loop μ-loop
-unfolding idsBelow
+unfolding filled
 loop-holds c = (omega arith, refl)
 
 loop-again : tie.Need-loop-again Inv-loop μ-loop
-unfolding idsBelow
+unfolding filled
 loop-again c = (omega arith, rw (add-one, ← (c .before .before .loop .inv .1)))
 
 returns : tie.Need-returns Inv-loop μ-loop

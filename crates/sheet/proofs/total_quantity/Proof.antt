@@ -4,7 +4,7 @@ use Prim.Native.Nat.{_≤_, _-_}
 use native.Mathlib.Omega.{arith}
 use native.Mathlib.Numerals.{add-one}
 use Prim.Native.Nat.{_*_}
-use Rattle.domain.specs.Refusals.{sumBelow}
+use Rattle.lists.specs.Below.{sumBelow}
 use Rattle.sheet.specs.Sheets.{quantityOf}
 use borrow.Author.Needs.{needs}
 use Rattle.sheet.proofs.total_quantity.Statement.{statement}

@@ -1,0 +1,17 @@
+-- That the order of a sheet's lines does not matter to its check_list: the statement in Demand, the theorems in OrderOfLines, and what leads to them.
+pub mod Demand
+pub mod Bools
+pub mod Picked
+pub mod Below
+pub mod Permuted
+pub mod Reordered
+pub mod Parts
+pub mod Kinds
+pub mod Own
+pub mod Boxes
+pub mod Pairs
+pub mod Repeats
+pub mod Unplaced
+pub mod Mass
+pub mod OrderOfLines
+pub mod Examples

@@ -1,0 +1,13 @@
+-- `check_pair::distance` meets its contract: the calls are the definition's own.
+use Rattle.check_pair.specs.Pair.{distanceOf}
+use borrow.Author.Needs.{needs}
+use Rattle.check_pair.proofs.distance.Statement.{statement}
+use Rattle.check_pair.proofs.distance.Tie as tie
+
+returns : tie.Need-returns
+unfolding distanceOf
+returns c = cc
+
+pub distance-spec : {M : Type 1} → statement M
+distance-spec =
+    tie.close (tie.spec (λ c. search needs) (λ c κs. search needs) (λ c. search needs) (λ c κs. search needs) (λ c. search needs) (λ c κs. search needs) (λ c κs. search needs) returns)

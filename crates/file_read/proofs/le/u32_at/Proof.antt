@@ -1,0 +1,32 @@
+-- `le::u32_at` meets its contract: the bytes by their weights.
+use Rattle.file_read.specs.Bytes.{u32At}
+use borrow.Author.Needs.{needs}
+use Rattle.file_read.proofs.le.u32_at.Statement.{statement}
+use Rattle.file_read.proofs.le.u32_at.Tie as tie
+
+returns : tie.Need-returns
+unfolding u32At
+returns c = search needs
+
+pub u32-at-spec : {M : Type 1} → statement M
+u32-at-spec =
+    tie.close
+    (tie.spec
+    (λ c. search needs)
+    (λ c κs. search needs)
+    (λ c. search needs)
+    (λ c. search needs)
+    (λ c κs. search needs)
+    (λ c. search needs)
+    (λ c. search needs)
+    (λ c κs. search needs)
+    (λ c. search needs)
+    (λ c. search needs)
+    (λ c κs. search needs)
+    (λ c. search needs)
+    (λ c. search needs)
+    (λ c. search needs)
+    (λ c. search needs)
+    (λ c. search needs)
+    (λ c. search needs)
+    returns)

@@ -1,0 +1,64 @@
+-- `file_fill::volume_of` meets its contract: after i turns the sum is over the first i lines.
+use mathlib.Core.Path.{_≡_, refl, _∙_}
+use Prim.Native.Nat.{_≤_, _-_, _*_}
+use native.Mathlib.Omega.{arith}
+use native.Mathlib.Numerals.{add-one}
+use Rattle.lists.specs.Below.{sumBelow}
+use Rattle.file_read.specs.Reading.{sheetOf}
+use Rattle.file_read.specs.Records.{bounds, line-is}
+use Rattle.fill_thousand.specs.Fill.{lineVolume}
+use Rattle.fill_file.specs.Tabled.{small, volume-same}
+use borrow.Author.Needs.{needs}
+use Rattle.fill_file.proofs.volume_of.Statement.{statement}
+use Rattle.fill_file.proofs.volume_of.Tie as tie
+
+abbrev Inv-loop : tie.InvT-loop
+Inv-loop f start n ids solids m t₀ i₀ t i = (i ≤ n) × (t ≤ i * 64000000000000) × (t ≡ sumBelow (lineVolume (sheetOf f .kinds) m (sheetOf f .lines)) i)
+
+abbrev μ-loop : tie.MeasureT-loop
+μ-loop f start n ids solids m t₀ i₀ t i = n - i
+
+loop-holds : tie.Need-loop-holds Inv-loop μ-loop
+unfolding sumBelow
+loop-holds c = (omega arith, omega arith, refl)
+
+line-volume-requires : tie.Need-line-volume-requires Inv-loop μ-loop
+line-volume-requires c κs = let t = c .before .before .before .before .pre .1 .1 .1 in (t .few, small _ _ _ _ t)
+
+add-t : tie.Need-add-t Inv-loop μ-loop
+add-t c = let b = bounds _ (c .before .before .before .before .before .pre .0) in omega arith
+
+loop-again : tie.Need-loop-again Inv-loop μ-loop
+unfolding sumBelow lineVolume
+loop-again c =
+    let r = c .before in
+    let l = r .before .before in
+    let s = l .before .before in
+    let e = r .line-in .ensures ∙ line-is _ _ _ (s .pre .0) (s .pre .1 .0) (omega arith) in (
+      omega arith,
+      omega arith,
+      rw (add-one, ← (l .loop .inv .2)) (rw (c .line-volume .ensures .0 ∙ volume-same _ _ _ _ _ (s .pre .1 .1 .1)) (rw e)),
+    )
+
+returns : tie.Need-returns Inv-loop μ-loop
+returns c =
+    let l = c .before in
+    let s = l .before .before in
+    let b = bounds _ (s .pre .0) in
+    let e : l .loop .i ≡ s .args .n = omega arith in
+    (rw e at (l .loop .inv .2), omega arith)
+
+pub volume-of-spec : {M : Type 1} → statement M
+volume-of-spec =
+    tie.close
+    (tie.spec
+    Inv-loop
+    μ-loop
+    loop-holds
+    (λ c κs. search needs)
+    line-volume-requires
+    add-t
+    (λ c. omega arith)
+    (λ c. omega arith)
+    loop-again
+    returns)

@@ -1,1 +1,0 @@
-// That the order of a sheet's lines does not matter to its findings: theorems over the checker's definitions, in specs/.

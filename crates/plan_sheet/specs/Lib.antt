@@ -1,0 +1,5 @@
+-- A finished plan: how it is made, and how it is handed out.
+pub mod Plans
+pub mod Hand
+pub mod Boxes
+pub mod Planned

@@ -1,0 +1,111 @@
+-- The list itself: the ids of the short kinds, each once, in kind order; and the refusals of the calls that give it.
+use mathlib.Core.Path.{_≡_, refl}
+use mathlib.Core.Bool.{Bool, true, false, cond, _||_}
+use mathlib.Core.List.{List, []}
+use Prim.Native.Nat.{ℕ, zero, suc, _+_, _≤_}
+use native.Mathlib.Nat.{le-refl}
+use native.Mathlib.Omega.{arith}
+use borrow.Author.Tests.{ltb-false}
+use lib.Dec.{eqb, ltb}
+use lib.ListN.{getD, set, replicate}
+use Rattle.domain.specs.Bounds.{mostKinds, mostLines}
+use Rattle.domain.specs.Refusals.{when, orElse, firstBelow}
+use Rattle.lists.specs.Bools.{or-left, or-right}
+use Rattle.measures.specs.declared.Kind.{Kind}
+use Rattle.sheet.specs.declared.Line.{Line}
+use Rattle.sheet.specs.declared.Sheet.{Sheet}
+use Rattle.sheet.specs.Sheets.{noKind, lineFaultIn, sheetRefusal}
+use Rattle.plan_unplaced.specs.declared.Left.{Left}
+use Rattle.plan_unplaced.specs.declared.Shorts.{Shorts}
+use Rattle.plan_unplaced.specs.Short.{isShort, namesOf}
+
+-- kind k is short
+unfoldable pub shortKind : List Kind → List ℕ → List ℕ → ℕ → ℕ → Bool
+shortKind kinds ids instances n k = isShort ids instances n (getD kinds k noKind .id) (getD kinds k noKind .quantity)
+
+-- a flag for each of the first m kinds, and false past them
+unfoldable pub flagsOf : List Kind → List ℕ → List ℕ → ℕ → ℕ → List Bool
+flagsOf kinds ids instances n zero = replicate mostKinds false
+flagsOf kinds ids instances n (suc m) = set (flagsOf kinds ids instances n m) m (shortKind kinds ids instances n m)
+
+-- no id, with a refusal or without
+abbrev pub noLeft : ℕ → Left
+noLeft r = record { refused = r; count = 0; ids = replicate mostKinds 0 }
+
+-- the list with one id more, where the test holds
+unfoldable pub pushIf : Bool → ℕ → Left → Left
+pushIf short id l = cond short (record { refused = l .refused; count = l .count + 1; ids = set (l .ids) (l .count) id }) l
+
+-- 01: "each kind with fewer distinct instances in range placed than its quantity, once, in kind order"
+unfoldable pub leftAfter : List Kind → List Bool → ℕ → Left
+leftAfter kinds flags zero = noLeft 0
+leftAfter kinds flags (suc m) = pushIf (getD flags m false) (getD kinds m noKind .id) (leftAfter kinds flags m)
+
+-- 01: "a count .. is over its bound"
+abbrev pub overBound : ℕ → ℕ → Bool
+overBound m n = ltb mostKinds m || ltb mostLines n
+
+-- which of m kinds are short, by n lines
+unfoldable pub shortsOf : List Kind → ℕ → List ℕ → List ℕ → ℕ → Shorts
+shortsOf kinds m ids instances n =
+    cond (overBound m n) (record { refused = 2; flags = replicate mostKinds false })
+    (record { refused = 0; flags = flagsOf kinds ids instances n m })
+
+-- the ids of those that are
+unfoldable pub leftOf : List Kind → ℕ → List ℕ → List ℕ → ℕ → Left
+leftOf kinds m ids instances n = cond (overBound m n) (noLeft 2) (leftAfter kinds (flagsOf kinds ids instances n m) m)
+
+-- the same for an order and a list of lines: 2 for their count, then what the order gets, then for the lines handed in 01's "3 line by line"
+unfoldable pub unplacedRefusal : Sheet → List Line → ℕ → ℕ
+unplacedRefusal order lines n = orElse (when (ltb mostLines n) 2) (orElse (sheetRefusal order) (firstBelow (lineFaultIn lines) n))
+
+unfoldable pub unplacedOf : Sheet → List Line → ℕ → Left
+unplacedOf order lines n =
+    cond (eqb (unplacedRefusal order lines n) 0)
+    (leftOf (order .kinds) (order .many .kinds) (namesOf lines mostLines .ids) (namesOf lines mostLines .instances) n)
+    (noLeft (unplacedRefusal order lines n))
+
+-- the order with n lines in the place of its own
+abbrev pub withLines : Sheet → List Line → ℕ → Sheet
+withLines order lines n =
+    record {
+      many = record { kinds = order .many .kinds; lines = n; unplaced = order .many .unplaced };
+      container = order .container;
+      kinds = order .kinds;
+      lines = lines;
+      unplaced = order .unplaced;
+    }
+
+-- ---- a list that is made is not refused
+push-fair : (b : Bool) (id : ℕ) (l : Left) → l .refused ≡ 0 → pushIf b id l .refused ≡ 0
+unfolding pushIf
+push-fair true id l h = h
+push-fair false id l h = h
+
+pub left-fair : (kinds : List Kind) (flags : List Bool) (m : ℕ) → leftAfter kinds flags m .refused ≡ 0
+unfolding leftAfter
+left-fair kinds flags zero = refl
+left-fair kinds flags (suc m) = push-fair (getD flags m false) (getD kinds m noKind .id) (leftAfter kinds flags m) (left-fair kinds flags m)
+
+-- ---- counts that are not over
+pub record Within (m n : ℕ) : Type 0 where
+  pub kinds : m ≤ mostKinds
+  pub lines : n ≤ mostLines
+
+pub within : (m n : ℕ) → overBound m n ≡ false → Within m n
+within m n h =
+    record { kinds = ltb-false mostKinds m (or-left (ltb mostKinds m) _ h); lines = ltb-false mostLines n (or-right (ltb mostKinds m) _ h) }
+
+-- ---- m kinds give at most m ids
+push-few : (b : Bool) (id : ℕ) (l : Left) → pushIf b id l .count ≤ l .count + 1
+unfolding pushIf
+push-few true id l = le-refl (l .count + 1)
+push-few false id l = omega arith
+
+pub left-few : (kinds : List Kind) (flags : List Bool) (m : ℕ) → leftAfter kinds flags m .count ≤ m
+unfolding leftAfter
+left-few kinds flags zero = le-refl 0
+left-few kinds flags (suc m) =
+    let h = left-few kinds flags m in
+    let p = push-few (getD flags m false) (getD kinds m noKind .id) (leftAfter kinds flags m) in
+    omega arith

@@ -1,6 +1,0 @@
--- A finished plan: how it is made, and how it is handed out.
-pub mod Plans
-pub mod Rows
-pub mod Hand
-pub mod Boxes
-pub mod Planned

@@ -1,0 +1,12 @@
+-- `point_place::fit::apart_from` meets its contract: the two triples read, and the test on them.
+use borrow.Author.Needs.{needs}
+use Rattle.point_place.proofs.fit.apart_from.Statement.{statement}
+use Rattle.point_place.proofs.fit.apart_from.Tie as tie
+
+returns : tie.Need-returns
+returns c = rw (c .apart .ensures, c .before .triple-at2 .ensures, c .before .before .triple-at .ensures)
+
+pub apart-from-spec : {M : Type 1} → statement M
+apart-from-spec =
+    tie.close
+    (tie.spec (λ c. search needs) (λ c κs. search needs) (λ c. search needs) (λ c. search needs) (λ c κs. search needs) (λ c κs. search needs) returns)

@@ -1,0 +1,2 @@
+-- What the contracts of `replay_results` cite.
+pub mod Results

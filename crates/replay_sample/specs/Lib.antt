@@ -1,0 +1,2 @@
+-- What the contracts of `replay_sample` cite.
+pub mod Sample

@@ -1,0 +1,2 @@
+-- What the contracts of `replay_vectors` cite.
+pub mod Sample

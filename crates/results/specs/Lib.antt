@@ -1,2 +1,0 @@
--- What the contracts of `results` cite.
-pub mod Results

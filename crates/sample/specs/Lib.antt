@@ -1,2 +1,0 @@
--- What the contracts of `sample` cite.
-pub mod Sample

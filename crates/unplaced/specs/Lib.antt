@@ -1,7 +1,0 @@
--- The unplaced list: what it is, and laws on counting distinct instances.
-pub mod Short
-pub mod Left
-pub mod Anew
-pub mod Sums
-pub mod Distinct
-pub mod Marks
