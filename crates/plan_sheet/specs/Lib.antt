@@ -3,3 +3,4 @@ pub mod Plans
 pub mod Hand
 pub mod Boxes
 pub mod Planned
+pub mod Laid

@@ -37,6 +37,14 @@ pub struct Packed {
     pub ids: [u32; domain::MOST_KINDS],
 }
 
+// What is told of a plan whose lines stand in lent columns.
+pub struct Told {
+    pub refused: u32,
+    pub considered: u64,
+    pub placed: usize,
+    pub utilization: f64,
+}
+
 // A planned sheet. A refused plan gives its refusal and a sheet with nothing in it, which no call accepts.
 pub struct PlanSheet {
     pub refused: u32,

@@ -162,4 +162,4 @@ advance-spec 𝓤 H 𝓜 𝓖 𝓡 =
     entered 𝓤 H (tripleOf 𝓤 H (𝓖 .A) f.signature (f.spec 𝓤 H (𝓖 .A) (𝓜 .mem) (𝓡 .run)))
     (tables 𝓤 H 𝓜 𝓡 code.env .C) (tables 𝓤 H 𝓜 𝓡 code.env .Λ) #advance code.function (code.unfolded 𝓤 H 𝓜 𝓡)
     (advance-meets 𝓤 H (𝓖 .A) (givenOf 𝓤 H 𝓜 𝓖) (𝓜 .mem) (𝓡 .run) (tablesOf 𝓤 H 𝓜 (tables 𝓤 H 𝓜 𝓡 code.env))
-    (cited 𝓤 H (Spot 𝓤 H (𝓖 .A) (𝓜 .mem) (𝓡 .run)) 𝓜 𝓡 code.env #asked-spot asked-spot-def.routine code.calls-lent-cursor·asked-spot (asked-spot-thm.met 𝓤 H 𝓜 𝓖 𝓡)))
+    (cited 𝓤 H (Spot 𝓤 H (𝓖 .A) (𝓜 .mem) (𝓡 .run)) 𝓜 𝓡 code.env #asked-spot asked-spot-def.routine code.calls-layer-lent·asked-spot (asked-spot-thm.met 𝓤 H 𝓜 𝓖 𝓡)))
