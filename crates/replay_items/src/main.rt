@@ -1,6 +1,6 @@
 // Replays the sample of items: items placed by a given list of instances, instance lists, the orientations that lines give to
 // one, fitness, and unplaced lists.
-mod lists; // lists.rt: instance lists, and orientations for one
+mod records; // records.rt: instance lists, and orientations for one
 mod placed; // placed.rt: items placed in the given order and orientations
 mod words; // words.rt: lists of numbers in the sample
 
@@ -28,10 +28,10 @@ fn same_unplaced(b: &[u8]) -> bool {
 
 fn one_list(tag: u32, b: &[u8]) -> bool {
     if tag == 6 {
-        return lists::same_instances(b);
+        return records::same_instances(b);
     }
     if tag == 7 {
-        return lists::same_seeds(b);
+        return records::same_seeds(b);
     }
     (tag == 10) & same_unplaced(b)
 }

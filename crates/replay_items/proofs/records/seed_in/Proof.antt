@@ -3,8 +3,8 @@ use mathlib.Core.Path.{sym}
 use native.Mathlib.Omega.{arith}
 use lib.Seq.{length-take-le}
 use borrow.Author.Needs.{needs}
-use Rattle.replay_items.proofs.lists.seed_in.Statement.{statement}
-use Rattle.replay_items.proofs.lists.seed_in.Tie as tie
+use Rattle.replay_items.proofs.records.seed_in.Statement.{statement}
+use Rattle.replay_items.proofs.records.seed_in.Tie as tie
 
 slice-aggregate-seed-orientations : tie.Need-slice-aggregate-seed-orientations
 slice-aggregate-seed-orientations c = sym (length-take-le _ _ (omega arith))

@@ -3,8 +3,8 @@ use mathlib.Core.Path.{sym}
 use native.Mathlib.Omega.{arith}
 use lib.Seq.{length-take-le}
 use borrow.Author.Needs.{needs}
-use Rattle.replay_items.proofs.lists.build_in.Statement.{statement}
-use Rattle.replay_items.proofs.lists.build_in.Tie as tie
+use Rattle.replay_items.proofs.records.build_in.Statement.{statement}
+use Rattle.replay_items.proofs.records.build_in.Tie as tie
 
 slice-aggregate-build-instances : tie.Need-slice-aggregate-build-instances
 slice-aggregate-build-instances c = sym (length-take-le _ _ (omega arith))
