@@ -1,8 +1,11 @@
 /* Waikurpeho: a proved planner for boxes in cases. The boundary for C, over libwaikurpeho.a.
  *
- * A sheet or an order is a load file of form 1: bytes, little-endian. Every call takes every input and returns.
+ * A sheet or an order is a load file of form 1 (docs/RULES.md, Load file): bytes, little-endian. Every call takes every input and returns.
  * An answer is one word: the refusal number times 2^32 plus a count; number 0 means accepted. A refused call leaves every
  * lent cell as it was; an accepted one leaves the cells past its results as they were.
+ *
+ * The most stack that a call takes, by a painted stack (tools/test_stack): wk_check 22 KiB, wk_plan_points 64 KiB, wk_plan_layers 16 KiB,
+ * wk_fill 4 KiB.
  *
  * A pointer must be valid for as many elements as are said beside it, also where that is none. Lent memory must not overlap
  * other memory of the same call.
@@ -17,7 +20,7 @@
 extern "C" {
 #endif
 
-/* The refusal numbers. */
+/* The refusal numbers: docs/RULES.md, Refusals. */
 enum {
     WK_ACCEPTED = 0,
     WK_SHAPE = 1,    /* the load file's shape is wrong */
@@ -35,7 +38,7 @@ enum {
 static inline uint32_t wk_refused(uint64_t answer) { return (uint32_t)(answer >> 32); }
 static inline uint32_t wk_count(uint64_t answer) { return (uint32_t)answer; }
 
-/* The findings on a sheet, five words a slot. The count is how many there are, or with 6 the slots needed. */
+/* The findings on a sheet, five words a slot (docs/RULES.md, Findings: words). The count is how many there are, or with 6 the slots needed. */
 uint64_t wk_check(const uint8_t *sheet, size_t sheet_len, uint64_t *findings, size_t findings_len);
 
 /* The plan of an order, by extreme points and by layers, written as a load file. The count is its length, or with 6 the length

@@ -22,18 +22,20 @@ pub fn question(seed: u64, case: u64) -> Question {
         2 => encode(&sheets::sheet(&mut r, case / 4)),
         _ => damage::random(&mut r, case / 4),
     };
-    let total = decode(&file).map_or(0, |s| s.total().min(256));
+    let total = decode(&file).map_or(0, |s| s.total().min(refusals::MOST_BOXES));
     let consider = if r.once_in(20) { r.next() } else { orders::consider(&mut r, total) };
     Question { file, consider }
 }
 
 /// Room for `needed` cells: just enough, too little, none, or more.
 fn room(r: &mut Random, needed: usize) -> usize {
-    match r.below(6) {
+    match r.below(7) {
         0 => needed.saturating_sub(1),
         1 => 0,
         2 => r.below(needed as u64 + 1) as usize,
         3 => needed,
+        // far more than is needed: a call may then write without counting first
+        4 => needed + 5 * 40_000,
         _ => needed + r.below(64) as usize,
     }
 }

@@ -1,10 +1,11 @@
-//! Load files, right and damaged, with the refusal that document 01 gives each.
+//! Load files, right and damaged, with the refusal that the rules give each.
 //!
 //! The known ones carry a number written down here by hand; `samples` holds it against `refusals`.
 
 use crate::load_file::{encode, Kind, Line, Sheet, CONTAINER, ID, KIND, LINE, LONGEST, TRAILER};
 use crate::orders::{self, Scale};
 use crate::random::{Random, NAN};
+use crate::refusals::{MOST_BOXES, MOST_KINDS, MOST_LINES, MOST_UNPLACED};
 use crate::sheets;
 
 /// A file and its refusal (0: accepted).
@@ -141,25 +142,25 @@ fn endings() -> Vec<Known> {
 }
 
 /// So many kinds, lines and ids.
-fn sized(kinds: u32, lines: u32, ids: u32) -> Vec<u8> {
+fn sized(kinds: usize, lines: usize, ids: usize) -> Vec<u8> {
     let mut s = Sheet::empty([1e9; 3]);
-    s.kinds = (0..kinds).map(|id| Kind::new(id, 1, [1.0; 3], 0)).collect();
+    s.kinds = (0..kinds as u32).map(|id| Kind::new(id, 1, [1.0; 3], 0)).collect();
     let line = |id| Line { id, instance: 0, orientation: 0, bin: 0, at: [0.0; 3] };
-    s.lines = (0..lines).map(line).collect();
-    s.unplaced = (0..ids).collect();
+    s.lines = (0..lines as u32).map(line).collect();
+    s.unplaced = (0..ids as u32).collect();
     encode(&s)
 }
 
 /// Counts at their bounds and one past them.
 fn counts() -> Vec<Known> {
     vec![
-        (sized(64, 0, 0), 0),
-        (sized(65, 0, 0), 2),
-        (sized(0, 256, 0), 0),
-        (sized(0, 257, 0), 2),
-        (sized(0, 0, 256), 0),
-        (sized(0, 0, 257), 2),
-        (sized(64, 256, 256), 0),
+        (sized(MOST_KINDS, 0, 0), 0),
+        (sized(MOST_KINDS + 1, 0, 0), 2),
+        (sized(0, MOST_LINES, 0), 0),
+        (sized(0, MOST_LINES + 1, 0), 2),
+        (sized(0, 0, MOST_UNPLACED), 0),
+        (sized(0, 0, MOST_UNPLACED + 1), 2),
+        (sized(MOST_KINDS, MOST_LINES, MOST_UNPLACED), 0),
     ]
 }
 
@@ -304,25 +305,26 @@ fn totals() -> Vec<Known> {
         encode(&s)
     };
     let half = 1 << 31;
+    let most = MOST_BOXES as u32;
     vec![
-        (of(&[256]), 0),
-        (of(&[257]), 2),
-        (of(&[1, 255]), 0),
-        (of(&[255, 1, 1]), 2),
-        (of(&[4; 64]), 0),
+        (of(&[most]), 0),
+        (of(&[most + 1]), 2),
+        (of(&[1, most - 1]), 0),
+        (of(&[most - 1, 1, 1]), 2),
+        (of(&[most / MOST_KINDS as u32; MOST_KINDS]), 0),
         (of(&[u32::MAX, 2]), 2),
         (of(&[half, half]), 2),
         (of(&[half, half, 1]), 2),
         (of(&[u32::MAX]), 2),
-        (of(&[u32::MAX; 64]), 2),
+        (of(&[u32::MAX; MOST_KINDS]), 2),
     ]
 }
 
 type Fault = (u32, fn(&mut Sheet));
 
-/// One fault of each sort and place, in the order in which document 01 tests them.
+/// One fault of each sort and place, in the order in which the rules test them.
 const FAULTS: [Fault; 12] = [
-    (2, |s| s.unplaced = (0..257).collect()),
+    (2, |s| s.unplaced = (0..=MOST_UNPLACED as u32).collect()),
     (3, |s| s.container.margin = NAN),
     (3, |s| s.container.limit = -1.0),
     (4, |s| s.kinds[0].rule = 3),
@@ -395,6 +397,7 @@ fn hurt(r: &mut Random, bytes: &mut Vec<u8>) {
     if n < 68 {
         return;
     }
+    let most = MOST_BOXES as u32;
     let specials = [0.0, -0.0, 1e-6, 1e9, 1e12, -1.0, NAN, f64::INFINITY, 5e-324, 1e300];
     match r.below(9) {
         0 => bytes[r.below(n) as usize] ^= 1 << r.below(8),
@@ -403,7 +406,7 @@ fn hurt(r: &mut Random, bytes: &mut Vec<u8>) {
             let at = (r.below((n - 8) / 4) * 4) as usize;
             bytes[at..at + 8].copy_from_slice(&r.pick(&specials).to_bits().to_le_bytes());
         }
-        3 => put_u32(bytes, (r.below((n - 4) / 4) * 4) as usize, r.pick(&[0, 1, 255, 256, 257, u32::MAX])),
+        3 => put_u32(bytes, (r.below((n - 4) / 4) * 4) as usize, r.pick(&[0, 1, most - 1, most, most + 1, u32::MAX])),
         4 => bytes.truncate(r.below(n) as usize),
         5 => bytes.extend((0..r.from_to(1, 8)).map(|i| i as u8)),
         6 => {

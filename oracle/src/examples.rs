@@ -1,6 +1,7 @@
-//! Document 01's measured examples as orders, calls and sheets, with the known point inside a box.
+//! The measured examples (crate `examples`) as orders, calls and sheets, with the known point inside a box.
 
 use crate::load_file::{Kind, Line, Sheet};
+use crate::refusals::MOST_BOXES;
 use crate::terms::Call;
 
 const TEN: [f64; 3] = [10.0; 3];
@@ -117,16 +118,16 @@ pub fn faces() -> Vec<(Sheet, Vec<Call>)> {
     all
 }
 
-/// Calls of `try_place`: the known two, P2, P3, and 256 boxes that keep every point.
+/// Calls of `try_place`: the known two, P2, P3, and as many boxes as a state holds, which keep every point.
 pub fn point_calls() -> Vec<(Sheet, Vec<Call>)> {
-    let many = order([1e9; 3], &[cube(1, 256, 1.0)]);
+    let many = order([1e9; 3], &[cube(1, MOST_BOXES as u32, 1.0)]);
     vec![
         (inside(16_777_196.000000002), calls(&[0, 1, 0, 0, 2])),
         (inside(16_777_196.0), calls(&[0, 1, 0, 0, 2])),
         (p2(), calls(&[0, 1])),
         (p3(), calls(&[0, 0])),
         (p6(), vec![]),
-        (many, calls(&[0; 256])),
+        (many, calls(&[0; MOST_BOXES as usize])),
     ]
 }
 

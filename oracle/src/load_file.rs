@@ -1,4 +1,4 @@
-//! Load file, form 1 of document 01: sheets to bytes and back.
+//! Load file, form 1 (docs/RULES.md, Load file): sheets to bytes and back.
 
 /// Bytes of the container block, of a kind, of a line and of the trailer.
 pub const CONTAINER: usize = 48;

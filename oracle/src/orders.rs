@@ -56,13 +56,13 @@ fn quantities(r: &mut Random, scale: Scale) -> Vec<u32> {
     let (kinds, most, total) = match scale {
         Scale::Small => (r.from_to(1, 4), 4, 10),
         Scale::Medium => (r.from_to(2, 12), 8, 48),
-        Scale::Full => (r.from_to(1, 64), 256, 256),
+        Scale::Full => (r.from_to(1, refusals::MOST_KINDS as i64), refusals::MOST_BOXES as i64, refusals::MOST_BOXES as i64),
     };
     let mut left = total;
     let mut list = Vec::new();
     for _ in 0..kinds {
         let share = match scale {
-            Scale::Full => 256 / kinds,
+            Scale::Full => refusals::MOST_BOXES as i64 / kinds,
             _ => r.from_to(1, most),
         };
         if left > 0 {
@@ -290,11 +290,11 @@ fn exact(r: &mut Random, scale: Scale) -> Sheet {
     let one = three(r, |r| if r.once_in(2) { tenth(r, 9) } else { r.from_to(1, 9) as f64 });
     let n = three(r, |r| r.from_to(1, if scale == Scale::Full { 7 } else { 3 }) as f64);
     let mut s = Sheet::empty([one[0] * n[0], one[1] * n[1], one[2] * n[2]]);
-    let most = if scale == Scale::Full { 256.0 } else { 30.0 };
+    let most = if scale == Scale::Full { refusals::MOST_BOXES as f64 } else { 30.0 };
     let all = (n[0] * n[1] * n[2]).min(most) as u32;
     let rule = r.below(3) as u8;
     s.kinds = vec![Kind::new(0, all, one, rule)];
-    if r.once_in(4) && all < 256 {
+    if r.once_in(4) && u64::from(all) < refusals::MOST_BOXES {
         s.kinds.push(Kind::new(1, 1, one, rule));
     }
     s

@@ -1,6 +1,6 @@
 //! The port's side of a comparison: four calls over bytes, as its boundary for other languages has them.
 //!
-//! `Prose` answers them from document 01's words, so that the comparison itself can be tried now.
+//! `Prose` answers them from the rules' words, so that the comparison itself can be tried now.
 //! `Library` is the port: build with `--features port` and `WAIKURPEHO_LIB` set to the folder of
 //! `libwaikurpeho.a`. Each answer is a refusal number times 2^32 plus a count.
 
@@ -72,7 +72,7 @@ pub fn write_fill(sheet: &[u8], fill: &mut u64) -> u64 {
     }
 }
 
-/// Document 01's words.
+/// The rules' words.
 pub struct Prose;
 
 impl Port for Prose {

@@ -1,4 +1,4 @@
-//! Document 01's sections on the two placers and the checker, written out once more from its words.
+//! The rules of the two placers and of the checker (docs/RULES.md), written out once more from their words.
 //!
 //! It shows whether the words and the unchanged Rust say the same. It is built otherwise on purpose:
 //! no heap, no maps, no text ids.
@@ -366,7 +366,7 @@ fn pair_finding(s: &Sheet, i: u64, j: u64, gap: [f64; 3], tolerance: f64) -> Opt
     (distance < spacing - tolerance).then(|| [8, i, j, distance.to_bits(), spacing.to_bits()])
 }
 
-/// The checker's findings in document 01's order.
+/// The checker's findings in their order.
 pub fn check(s: &Sheet) -> Vec<[u64; 5]> {
     let larger = |m: f64, &v: &f64| if v > m { v } else { m };
     let tolerance = 1e-9 * s.container.size.iter().fold(1.0, larger) + 1e-9;

@@ -1,4 +1,4 @@
-//! Document 01's bounds, its refusal numbers and their order, written straight from its text.
+//! The bounds of the rules, the refusal numbers and their order (docs/RULES.md), each bound once by name.
 //! The Rust has nothing of this, and nothing here is taken from the port.
 
 use crate::load_file::{decode, Container, Kind, Line, Sheet};
@@ -105,7 +105,7 @@ pub fn of_file(bytes: &[u8]) -> u32 {
 
 /// The refusal of a fitness call: 2 for a count, 3 for the fill.
 pub fn of_fitness(placed: u32, total: u32, fill: f64) -> u32 {
-    if placed > 256 || total > 256 {
+    if u64::from(placed) > MOST_BOXES || u64::from(total) > MOST_BOXES {
         2
     } else if !is_measure(fill) {
         3

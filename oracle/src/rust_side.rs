@@ -1,4 +1,4 @@
-//! The unchanged Rust asked in document 01's terms: sheets in; plans, findings and states out.
+//! The unchanged Rust asked in the terms of the rules: sheets in; plans, findings and states out.
 
 use crate::boundary::Boundary3D;
 use crate::check::{check_packing, PackingRules, PackingViolation as V};
@@ -14,7 +14,7 @@ use u_nesting_core::geometry::Geometry;
 use u_nesting_core::solver::Config;
 use u_nesting_core::Placement;
 
-/// The sum of nothing is −0 in this Rust; document 01 gives +0.
+/// The sum of nothing is −0 in this Rust; the rules give +0.
 pub fn plus_zero(x: f64) -> f64 {
     if x == 0.0 {
         0.0
@@ -70,7 +70,7 @@ fn number(id: &str) -> u32 {
     id.parse().expect("ids are decimal numbers")
 }
 
-/// Document 01's list: the Rust's own, each id once.
+/// The unplaced list of the rules: the Rust's own, each id once.
 fn unplaced(placed: &[Placement<f64>], geometries: &[Geometry3D]) -> Vec<u32> {
     let mut ids: Vec<u32> =
         packing_utils::build_unplaced_list(placed, geometries).iter().map(|id| number(id)).collect();
@@ -276,7 +276,7 @@ fn words(v: &V) -> [u64; 5] {
     }
 }
 
-/// `check_packing`, each finding as document 01's five words.
+/// `check_packing`, each finding as its five words.
 pub fn check(s: &Sheet) -> Vec<[u64; 5]> {
     let rules = PackingRules { spacing: s.container.spacing, margin: s.container.margin };
     let listed: Vec<String> = s.unplaced.iter().map(u32::to_string).collect();

@@ -69,7 +69,7 @@ pub fn calls(r: &mut Random, s: &Sheet, scale: Scale) -> Vec<Call> {
     let most = match scale {
         Scale::Small => 12,
         Scale::Medium => 40,
-        Scale::Full => 256,
+        Scale::Full => refusals::MOST_BOXES as i64,
     };
     let n = if s.kinds.is_empty() { 0 } else { r.from_to(0, most) };
     (0..n).map(|_| call(r, s)).collect()
@@ -238,7 +238,7 @@ pub fn items(r: &mut Random, n: usize) -> Vec<Item> {
     for _ in 0..r.below(3) {
         places.push(r.pick(&[n as u32, n as u32 + 1, u32::MAX, 0]));
     }
-    places.truncate(256);
+    places.truncate(refusals::MOST_ITEMS);
     let orientation = |r: &mut Random| if r.once_in(8) { r.next() as u32 } else { r.below(8) as u32 };
     places.into_iter().map(|place| Item { place, orientation: orientation(r) }).collect()
 }
@@ -281,10 +281,10 @@ fn fitness_case(placed: u32, total: u32, fill: f64) -> Case {
 fn item_edges() -> Vec<Case> {
     let mut s = Sheet::empty([100.0; 3]);
     s.kinds.push(Kind::new(1, 2, [1.0, 2.0, 3.0], 0));
-    let records = vec![Record { kind: 0, instance: 0, count: 6 }; 257];
-    let items = vec![Item { place: 0, orientation: 1 }; 257];
+    let records = vec![Record { kind: 0, instance: 0, count: 6 }; refusals::MOST_INSTANCES + 1];
+    let items = vec![Item { place: 0, orientation: 1 }; refusals::MOST_ITEMS + 1];
     let mut all = vec![
-        items_case(&s, &records[..256], &items[..256], 300),
+        items_case(&s, &records[..refusals::MOST_INSTANCES], &items[..refusals::MOST_ITEMS], 300),
         items_case(&s, &records, &items[..1], 1),
         items_case(&s, &records[..1], &items, 1),
         items_case(&s, &[], &[], 0),
@@ -292,9 +292,10 @@ fn item_edges() -> Vec<Case> {
     ];
     let fills = [0.0, -0.0, 0.5, 1.0, 1e9, 1e9_f64.next_up(), 5e-324, -5e-324, NAN, f64::INFINITY];
     all.extend(fills.into_iter().map(|fill| fitness_case(3, 7, fill)));
-    let counts = [(0, 0), (1, 0), (256, 0), (256, 256), (257, 1), (1, 257), (257, 257), (256, 1), (0, 256)];
+    let (most, past) = (refusals::MOST_BOXES as u32, refusals::MOST_BOXES as u32 + 1);
+    let counts = [(0, 0), (1, 0), (most, 0), (most, most), (past, 1), (1, past), (past, past), (most, 1), (0, most)];
     all.extend(counts.into_iter().map(|(placed, total)| fitness_case(placed, total, 0.3)));
-    all.push(fitness_case(257, 1, NAN));
+    all.push(fitness_case(past, 1, NAN));
     all
 }
 
@@ -316,7 +317,7 @@ pub fn items_and_lists(seed: u64, count: u64) -> Vec<Case> {
             }
             4 => {
                 let fill = r.pick(&[r.clone().unit(), r.clone().log_uniform(), 0.0]);
-                fitness_case(r.below(257) as u32, r.below(257) as u32, fill)
+                fitness_case(r.below(refusals::MOST_BOXES + 1) as u32, r.below(refusals::MOST_BOXES + 1) as u32, fill)
             }
             _ => {
                 let records = records(r, &s);
@@ -339,11 +340,11 @@ fn check_case(s: &Sheet) -> Case {
     (tag::CHECK, body)
 }
 
-/// Checks: the measured examples, crowds around 1,600 findings and a full one, a clean sheet of 256 lines, then drawn sheets.
+/// Checks: the measured examples, crowds around 1,600 findings and a full one, a clean sheet of as many lines as there may be, then drawn sheets.
 pub fn check(seed: u64, count: u64) -> Vec<Case> {
     let mut fixed: Vec<Case> = examples::sheets().iter().map(|(_, s)| check_case(s)).collect();
-    fixed.extend([57, 58, 256].map(|lines| check_case(&sheets::crowd(lines))));
-    fixed.push(check_case(&timing::planned(256)));
+    fixed.extend([57, 58, refusals::MOST_LINES as u32].map(|lines| check_case(&sheets::crowd(lines))));
+    fixed.push(check_case(&timing::planned(refusals::MOST_BOXES as u32)));
     after(fixed, seed, count, |r, i| check_case(&sheets::sheet(r, i)))
 }
 
@@ -382,7 +383,8 @@ fn kinds_case(kinds: &[Kind]) -> Case {
 /// Slices of kind records, mostly with a fault or two.
 pub fn kinds(seed: u64, count: u64) -> Vec<Case> {
     let many = |n: u32| (0..n).map(|id| Kind::new(id, u32::MAX, [1.0; 3], 0)).collect::<Vec<_>>();
-    let fixed = [0, 1, 63, 64, 65].map(|n| kinds_case(&many(n))).to_vec();
+    let most = refusals::MOST_KINDS as u32;
+    let fixed = [0, 1, most - 1, most, most + 1].map(|n| kinds_case(&many(n))).to_vec();
     after(fixed, seed, count, |r, i| {
         let mut list = orders::order(r, i, Scale::Small).kinds;
         for _ in 0..r.below(3) {

@@ -1,4 +1,4 @@
-//! What is asked and answered, in document 01's terms. The Rust and the prose both give these.
+//! What is asked and answered, in the terms of the rules. The Rust and the prose both give these.
 
 use crate::load_file::{encode, Line, Sheet};
 

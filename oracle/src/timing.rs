@@ -67,6 +67,18 @@ pub fn planned(boxes: u32) -> Sheet {
     planned_sheet(&order, &plan)
 }
 
+/// The same lines where every pair is closer than the spacing asks: each is a finding with its distance.
+pub fn crowded(boxes: u32) -> Sheet {
+    let mut sheet = planned(boxes);
+    sheet.container.spacing = 1000.0;
+    sheet
+}
+
+/// An order checked as a sheet: no line at all.
+pub fn bare(boxes: u32) -> Sheet {
+    turned(boxes)
+}
+
 /// Every input at 16, 64 and 256.
 pub fn inputs() -> Vec<Input> {
     let mut all = Vec::new();
@@ -75,9 +87,19 @@ pub fn inputs() -> Vec<Input> {
         all.push(input("equal cubes that all fit", Engine::Points, cubes(boxes)));
         all.push(input("mixed boxes, many don't fit", Engine::Points, mixed(boxes)));
         all.push(input("boxes in six orientations", Engine::Layers, turned(boxes)));
+        all.push(input("equal cubes that all fit", Engine::Layers, cubes(boxes)));
+        all.push(input("mixed boxes, many don't fit", Engine::Layers, mixed(boxes)));
         all.push(input("a layer plan at spacing 1", Engine::Check, planned(boxes)));
+        all.push(input("no line", Engine::Check, bare(boxes)));
+        all.push(input("every pair too close", Engine::Check, crowded(boxes)));
     }
     all
+}
+
+/// Words for all findings that a sheet of so many lines, kinds and ids can have: six a line, one a pair, one for the mass, a kind and an id.
+pub fn room_for_all(s: &Sheet) -> usize {
+    let n = s.lines.len();
+    5 * (6 * n + n * n / 2 + 1 + s.kinds.len() + s.unplaced.len())
 }
 
 /// The shortest time of one call in nanoseconds, over rounds that fill about `milliseconds`.

@@ -1,4 +1,4 @@
-//! Document 01's measured examples, out of the unchanged Rust as printed there.
+//! The measured examples, out of the unchanged Rust.
 
 use oracle::examples::*;
 use oracle::load_file::{decode, encode, Sheet};

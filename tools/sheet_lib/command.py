@@ -108,10 +108,29 @@ def put(out, data, inputs):
     if any(os.path.exists(out) and os.path.exists(name) and os.path.samefile(out, name) for name in inputs):
         raise Problem('%s is what was read: give -o another name' % out)
     try:
-        with open(out, 'wb') as target:
-            target.write(data)
+        _write(out, data)
     except OSError as error:
         raise Problem('%s cannot be written: %s' % (out, error.strerror)) from None
+
+
+def _write(out, data):
+    """Writes a file whole or not at all: beside its place, and then moved into it. What is no plain file is written as it is."""
+    out = os.path.realpath(out)
+    if os.path.exists(out) and not os.path.isfile(out):
+        with open(out, 'wb') as target:
+            target.write(data)
+        return
+    beside = '%s.%d.part' % (out, os.getpid())
+    try:
+        with open(beside, 'wb') as target:
+            target.write(data)
+        if os.path.exists(out):
+            os.chmod(beside, os.stat(out).st_mode & 0o7777)
+        os.replace(beside, out)
+    except BaseException:
+        if os.path.exists(beside):
+            os.remove(beside)
+        raise
 
 
 def as_text(sheet, name):
@@ -152,11 +171,23 @@ def main(commands, words):
             print('%s: %s' % (_program(), line), file=sys.stderr)
         status = problem.status
     except BrokenPipeError:
-        os.dup2(os.open(os.devnull, os.O_WRONLY), sys.stdout.fileno())
+        _let_go()
+        status = 2
+    except OSError as error:
+        _let_go()
+        print('%s: standard output cannot be written: %s' % (_program(), error.strerror), file=sys.stderr)
         status = 2
     except KeyboardInterrupt:
         status = 2
     sys.exit(status or 0)
+
+
+def _let_go():
+    """Lets what is left in standard output's buffer go nowhere, so that the end of the program does not try it again."""
+    try:
+        os.dup2(os.open(os.devnull, os.O_WRONLY), 1)
+    except OSError:
+        pass
 
 
 def _run(commands, words):

@@ -3,7 +3,8 @@ import re
 import struct
 from collections import namedtuple
 
-from . import text
+from . import bounds, text
+from .bounds import told
 
 # refused 0: the sheet was accepted. needed: the number that follows refusal 6, else None.
 Result = namedtuple('Result', 'refused needed findings')
@@ -32,20 +33,23 @@ REFUSALS = {
     3: 'a measure or a position is outside its range',
     4: 'a kind has quantity 0 (or its record has a wrong rule, mass flag, filler or mass)',
     5: "an id repeats an earlier kind's",
-    6: 'there are more findings than the program has room for, which is 1,600',
+    6: 'there are more findings than the program has room for, which is ' + told(bounds.SLOTS),
     7: 'the placer already holds as many boxes as it can',
-    8: 'a length of the container or of a kind is not whole or is over 10,000, so there is no fill per thousand',
+    8: 'a length of the container or of a kind is not whole or is over %s, so there is no fill per thousand' % told(bounds.MOST_SIDE),
     9: "an instance list holds a kind past the order's kinds",
 }
 
+_LENGTH = 'a length is from %s to %s' % (told(bounds.LEAST_LENGTH), told(bounds.MOST))
+_MEASURE = 'it is from 0 to %s, and not -0' % told(bounds.MOST)
+
 # What refusals 2 and 3 ask of the entry of a text that brings them.
 BOUNDS = {
-    2: {'kind': 'at most 64 kinds, and 256 boxes of all kinds together', 'line': 'at most 256 lines', 'unplaced': 'at most 256 ids'},
-    3: {'container': 'a length is from 0.000001 to 1,000,000,000',
-        'margin': 'it is from 0 to 1,000,000,000, and not -0', 'spacing': 'it is from 0 to 1,000,000,000, and not -0',
-        'limit': 'it is above 0, and 1,000,000,000,000 or less',
-        'kind': 'a length is from 0.000001 to 1,000,000,000, a mass from 0 to 1,000,000,000 and not -0',
-        'line': 'a position is from -1,000,000,000 to 1,000,000,000'},
+    2: {'kind': 'at most %d kinds, and %d boxes of all kinds together' % (bounds.MOST_KINDS, bounds.MOST_BOXES),
+        'line': 'at most %d lines' % bounds.MOST_LINES, 'unplaced': 'at most %d ids' % bounds.MOST_UNPLACED},
+    3: {'container': _LENGTH, 'margin': _MEASURE, 'spacing': _MEASURE,
+        'limit': 'it is above 0, and %s or less' % told(bounds.MOST_LIMIT),
+        'kind': '%s, a mass from 0 to %s and not -0' % (_LENGTH, told(bounds.MOST)),
+        'line': 'a position is from -%s to %s' % (told(bounds.MOST), told(bounds.MOST))},
 }
 
 _BITS = re.compile(r'[0-9A-F]{16}')

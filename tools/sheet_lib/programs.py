@@ -15,6 +15,8 @@ from .command import Problem
 ROOT = os.path.dirname(os.path.dirname(os.path.dirname(os.path.realpath(__file__))))
 # The crates, by what they do.
 PLAN, CHECK, FILL = 'plan', 'check_sheet', 'sheet_fill'
+# How a program's line on the error stream begins where its input could not be read or its output not be written.
+FAILED = 'failed: '
 
 
 @functools.lru_cache(maxsize=None)
@@ -96,7 +98,11 @@ def run(name, data, words=()):
                               stdout=subprocess.PIPE, stderr=subprocess.PIPE)
     except OSError as error:
         raise Problem('%s cannot be started: %s' % (name, error.strerror)) from None
-    return done.stdout, done.stderr.decode('utf-8', 'replace').strip(), done.returncode
+    said = done.stderr.decode('utf-8', 'replace').strip()
+    # a program has no exit status of its own: this line stands for one
+    if said.startswith(FAILED):
+        raise Problem('%s: %s' % (name, said[len(FAILED):]))
+    return done.stdout, said, done.returncode
 
 
 def strange(name, status, said):

@@ -3,7 +3,10 @@
 //! A sheet or an order is a load file of form 1, as bytes. Every call takes every input; a bad one is
 //! refused by number, and nothing is changed then.
 
-/// Why a call was refused: the numbers of the rules.
+/// The longest load file, in bytes (docs/RULES.md, Numbers that bound it).
+pub const LONGEST: usize = 60_000;
+
+/// Why a call was refused: the numbers of docs/RULES.md, Refusals.
 #[derive(Clone, Copy, Debug, PartialEq, Eq)]
 pub struct Refusal {
     /// 1 shape, 2 count, 3 range, 4 record, 5 repeated id, 6 room, 8 lengths not whole
@@ -79,7 +82,7 @@ pub fn plan_into(placer: Placer, order: &[u8], consider: u64, sheet: &mut [u8], 
 
 /// The plan of an order over at most `consider` of its boxes.
 pub fn plan(placer: Placer, order: &[u8], consider: u64) -> Result<Plan, Refusal> {
-    let (mut sheet, mut figures) = (vec![0; 60_000], [0; 2]);
+    let (mut sheet, mut figures) = (vec![0; LONGEST], [0; 2]);
     let length = plan_into(placer, order, consider, &mut sheet, &mut figures)?;
     sheet.truncate(length);
     Ok(Plan { sheet, considered: figures[0], utilization: f64::from_bits(figures[1]) })

@@ -1,4 +1,4 @@
-//! 01's worked example and P5, through the wrapper.
+//! The worked example (docs/RULES.md, Programs) and P5 of the crate `examples`, through the wrapper.
 use waikurpeho::{check, check_into, fill, plan, Placer, Refusal};
 
 /// A load file: container, spacing, one kind without a mass, lines (id, instance, x).

@@ -1,4 +1,4 @@
--- The findings' words, and the findings over tables.
+-- The findings' words, the findings over a view, and columns that hold one.
 pub mod Finding
-pub mod Rows
-pub mod Runs
+pub mod View
+pub mod Held

@@ -1,28 +1,14 @@
-// The findings on a load sheet, over tables that were read off it once.
+// The findings on a load sheet, over its bytes and columns that were filled from them once. RULES: Findings: words
 ghost use mathlib.Core.Path.{_≡_};
-ghost use Rattle.check_words.specs.Wrote.{Wrote};
-ghost use Rattle.check_list.specs.Runs.{fair, findingsIn};
+ghost use Rattle.check_words.specs.Wrote.{roomFor};
+ghost use Rattle.check_list.specs.View.{View, findingsOf, fair};
+ghost use Rattle.check_list.specs.Held.{Held, AllHeld, Ran};
+use measures::Container;
 use sheet::Counts;
-use sheet::Sheet;
 
 mod line;
 mod pair;
 mod rest;
-
-// Cells of a table of plan_boxes: six a line.
-pub const CORNERS: usize = 1536;
-
-// What is read off a sheet: the ids of its kinds; by line the place of its kind, whether an earlier line names the same copy, and
-// the box; the mass of all lines; by unplaced id the place of its kind; and which kinds are short.
-pub struct Table {
-    pub ids: [u32; domain::MOST_KINDS],
-    pub which: [usize; domain::MOST_LINES],
-    pub again: [bool; domain::MOST_LINES],
-    pub boxes: [f64; CORNERS],
-    pub mass: f64,
-    pub listed: [usize; domain::MOST_UNPLACED],
-    pub short: [bool; domain::MOST_KINDS],
-}
 
 // The counts, or none where one is over its bound.
 fn fair(many: Counts) -> Counts
@@ -38,29 +24,43 @@ fn fair(many: Counts) -> Counts
     many
 }
 
-// Lists the findings from the first cell on, as far as there are cells, and says how many words they are. Counts over their bounds count for nothing.
-pub fn list_findings(s: Sheet, t: Table, out: &mut [u64]) -> usize
-    ensures { λ r. ⌜ Wrote (now (out .entry)) 0 (findingsIn s t) r (now (out .exit)) ⌝ }
+// Lists the findings from the first cell on, as far as there are cells, and says how many words they are. Lines start at `start`
+// of the bytes; `which` and `listed` are the places of the kinds that the lines and the unplaced ids name; `again` tells the
+// repeated lines; the six columns of floats are the near and far corners of the boxes. Counts over their bounds count for nothing.
+pub fn list_findings(
+    out: &mut [u64],
+    f: &[u8],
+    start: usize,
+    counts: Counts,
+    c: Container,
+    mass: f64,
+    which: &[usize; domain::MOST_LINES],
+    again: &[bool; domain::MOST_LINES],
+    x: &[f64; domain::MOST_LINES],
+    y: &[f64; domain::MOST_LINES],
+    z: &[f64; domain::MOST_LINES],
+    xx: &[f64; domain::MOST_LINES],
+    yy: &[f64; domain::MOST_LINES],
+    zz: &[f64; domain::MOST_LINES],
+    ids: &[u32; domain::MOST_KINDS],
+    short: &[bool; domain::MOST_KINDS],
+    left: &[u32; domain::MOST_UNPLACED],
+    listed: &[usize; domain::MOST_UNPLACED],
+) -> usize
+    ensures { λ r. ⌜ Ran (now (out .entry)) 0 (roomFor (fair counts .kinds) (fair counts .lines) (fair counts .unplaced))
+        (AllHeld counts c mass (now (f .entry)) start (now (which .entry)) (now (again .entry)) (now (x .entry)) (now (y .entry)) (now (z .entry))
+        (now (xx .entry)) (now (yy .entry)) (now (zz .entry))
+        (now (ids .entry)) (now (short .entry)) (now (left .entry)) (now (listed .entry))) findingsOf r (now (out .exit)) ⌝ }
 {
-    let many = fair(s.many);
-    let c = s.container;
-    let lines = s.lines;
-    let kinds = s.kinds;
-    let left = s.unplaced;
+    let many = fair(counts);
     let size = c.size;
-    let slack = check_pair::tolerance(size);
-    let ids = t.ids;
-    let which = t.which;
-    let again = t.again;
-    let boxes = t.boxes;
-    let listed = t.listed;
-    let short = t.short;
+    let t = check_pair::tolerance(size);
     let m = many.kinds;
     let n = many.lines;
     let u = many.unplaced;
-    let p = line::put_lines(out, lines, kinds, &which, &again, m, n, c, slack);
-    let q = pair::put_pairs(out, p, &boxes, &which, m, n, c.spacing, slack);
-    let r = rest::put_mass(out, q, t.mass, c.limit, slack);
-    let w = rest::put_missing(out, r, &ids, &short, m, &left, u);
-    rest::put_wrong(out, w, &listed, &short, m, &left, u)
+    let p = line::put_lines(out, f, start, which, again, x, y, z, xx, yy, zz, m, n, c, t);
+    let q = pair::put_pairs(out, p, which, x, y, z, xx, yy, zz, m, n, c, t);
+    let r = rest::put_mass(out, q, mass, c.limit, t);
+    let w = rest::put_missing(out, r, ids, short, m, left, listed, u);
+    rest::put_wrong(out, w, ids, short, m, left, listed, u)
 }

@@ -1,14 +1,14 @@
-// The findings of a line for itself, and that it repeats an earlier one: 1 to 6.
+// The findings of a line for itself, and that it repeats an earlier one: 1 to 6. RULES: Findings: lines
 ghost use mathlib.Core.Path.{_≡_};
-ghost use mathlib.Core.Bool.{_&&_};
 ghost use mathlib.Core.List.{_++_};
-ghost use Prim.Native.Nat.{_+_, _≤_, _<_};
-ghost use Rattle.domain.specs.Bounds.{mostKinds, mostLines};
+ghost use Prim.Native.Nat.{_+_, _*_, _≤_, _<_};
+ghost use Rattle.domain.specs.Bounds.{mostLines};
+ghost use Rattle.lists.specs.Below.{allBelow};
 ghost use Rattle.check_pair.specs.Tolerance.{toleranceOf};
-ghost use Rattle.check_words.specs.Words.{allBelow};
-ghost use Rattle.check_words.specs.Wrote.{Wrote};
-ghost use Rattle.check_list.specs.Finding.{nameWords, repeatWords, placeWords, insideOn, inside};
-ghost use Rattle.check_list.specs.Runs.{lineWords, lineIn};
+ghost use Rattle.check_words.specs.Wrote.{Wrote, mostWords};
+ghost use Rattle.check_list.specs.Finding.{nameWords, repeatWords, placeWords, insideOn, boxInside};
+ghost use Rattle.check_list.specs.View.{View, lineFound};
+ghost use Rattle.check_list.specs.Held.{OwnHeld, Ran};
 use check_pair::Extent;
 use measures::Container;
 use measures::Kind;
@@ -25,30 +25,31 @@ fn inside_on(c: Container, t: f64, e: Extent, axis: usize) -> bool
 }
 
 fn inside(c: Container, t: f64, e: Extent) -> bool
-    ensures { λ r. ⌜ r ≡ inside c t e ⌝ }
+    ensures { λ r. ⌜ r ≡ boxInside c t e ⌝ }
 {
     inside_on(c, t, e, 0) & (inside_on(c, t, e, 1) & inside_on(c, t, e, 2))
 }
 
-// 1 unknown, 2 out of range.
-fn put_name(out: &mut [u64], at: usize, i: usize, l: Line, known: bool, k: Kind) -> usize
-    requires { ⌜ at < 10000000 ⌝ }
-    ensures { λ r. ⌜ Wrote (now (out .entry)) at (nameWords i l known k) r (now (out .exit)) × (r ≤ at + 10) ⌝ }
+// 1 unknown, 2 out of range, 3 repeated.
+fn put_name(
+    out: &mut [u64],
+    at: usize,
+    i: usize,
+    l: Line,
+    known: bool,
+    k: Kind,
+    again: bool,
+) -> usize
+    requires { ⌜ at + 15 ≤ mostWords ⌝ }
+    ensures { λ r. ⌜ Wrote (now (out .entry)) at (nameWords i l known k ++ repeatWords i l again) r (now (out .exit)) × (r ≤ at + 15) ⌝ }
 {
     let line = i as u64;
     let id = l.id as u64;
+    let copy = l.instance as u64;
     let far = known & !(l.instance < k.quantity);
     let p = check_words::put_if(out, at, !known, 1, line, id, 0, 0);
-    check_words::put_if(
-        out,
-        p,
-        far,
-        2,
-        line,
-        id,
-        l.instance as u64,
-        k.quantity as u64,
-    )
+    let q = check_words::put_if(out, p, far, 2, line, id, copy, k.quantity as u64);
+    check_words::put_if(out, q, again, 3, line, id, copy, 0)
 }
 
 // 4 orientation, 5 bin, 6 outside.
@@ -59,75 +60,56 @@ fn put_place(
     l: Line,
     known: bool,
     k: Kind,
+    e: Extent,
     c: Container,
     t: f64,
 ) -> usize
-    requires { ⌜ (at < 10000000) × (t ≡ toleranceOf (c .size)) ⌝ }
-    ensures { λ r. ⌜ Wrote (now (out .entry)) at (placeWords c i l known k) r (now (out .exit)) × (r ≤ at + 15) ⌝ }
+    requires { ⌜ (at + 15 ≤ mostWords) × (t ≡ toleranceOf (c .size)) ⌝ }
+    ensures { λ r. ⌜ Wrote (now (out .entry)) at (placeWords c i l known k e) r (now (out .exit)) × (r ≤ at + 15) ⌝ }
 {
     let line = i as u64;
     let id = l.id as u64;
     let index = l.orientation as usize;
     let turned = known & (measures::allowed_orientations(k.rule) <= index);
     let elsewhere = known & (0 < l.bin);
-    let outside = known & !inside(c, t, check_words::box_of(l, k));
+    let outside = known & !inside(c, t, e);
     let p = check_words::put_if(out, at, turned, 4, line, id, l.orientation as u64, 0);
     let q = check_words::put_if(out, p, elsewhere, 5, line, l.bin as u64, 0, 0);
     check_words::put_if(out, q, outside, 6, line, id, 0, 0)
 }
 
-// All that line i gets. `again` says that an earlier line names the same copy.
-fn put_line(
-    out: &mut [u64],
-    at: usize,
-    i: usize,
-    l: Line,
-    known: bool,
-    k: Kind,
-    again: bool,
-    c: Container,
-    t: f64,
-) -> usize
-    requires { ⌜ (at < 1000000) × (t ≡ toleranceOf (c .size)) ⌝ }
-    ensures { λ r. ⌜ Wrote (now (out .entry)) at (lineWords c i l known k again) r (now (out .exit)) × (r ≤ at + 30) ⌝ }
-{
-    let repeats = (known & (l.instance < k.quantity)) & again;
-    let p = put_name(out, at, i, l, known, k);
-    let q = check_words::put_if(
-        out,
-        p,
-        repeats,
-        3,
-        i as u64,
-        l.id as u64,
-        l.instance as u64,
-        0,
-    );
-    put_place(out, q, i, l, known, k, c, t)
-}
-
 // What the first n lines get, one after the other, where there are m kinds.
 pub(crate) fn put_lines(
     out: &mut [u64],
-    lines: [Line; domain::MOST_LINES],
-    kinds: [Kind; domain::MOST_KINDS],
+    f: &[u8],
+    start: usize,
     which: &[usize; domain::MOST_LINES],
     again: &[bool; domain::MOST_LINES],
+    x: &[f64; domain::MOST_LINES],
+    y: &[f64; domain::MOST_LINES],
+    z: &[f64; domain::MOST_LINES],
+    xx: &[f64; domain::MOST_LINES],
+    yy: &[f64; domain::MOST_LINES],
+    zz: &[f64; domain::MOST_LINES],
     m: usize,
     n: usize,
     c: Container,
     t: f64,
 ) -> usize
     requires { ⌜ (n ≤ mostLines) × (t ≡ toleranceOf (c .size)) ⌝ }
-    ensures { λ r. ⌜ Wrote (now (out .entry)) 0 (allBelow (lineIn c lines kinds m (now (which .entry)) (now (again .entry))) n) r (now (out .exit)) × (r ≤ 7680) ⌝ }
+    ensures { λ r. ⌜ Ran (now (out .entry)) 0 (6 * n)
+        (OwnHeld m n c (now (which .entry)) (now (x .entry)) (now (y .entry)) (now (z .entry)) (now (xx .entry)) (now (yy .entry)) (now (zz .entry))
+        (now (f .entry)) start (now (again .entry))) (λ (v : View). allBelow (lineFound v) n) r (now (out .exit)) ⌝ }
 {
     let mut p = 0;
     let mut i = 0;
     while i < n {
-        let l = lines[i];
-        let w = check_words::within(which[i]);
-        let k = kinds[w];
-        p = put_line(out, p, i, l, which[i] < m, k, again[i], c, t);
+        let l = file_read::records::line_in(f, start, i);
+        let w = which[i];
+        let k = file_read::records::kind_in(f, w);
+        let e = crate::pair::box_at(x, y, z, xx, yy, zz, i);
+        let q = put_name(out, p, i, l, w < m, k, again[i]);
+        p = put_place(out, q, i, l, w < m, k, e, c, t);
         i += 1;
     }
     p

@@ -1,15 +1,15 @@
-// The findings on the mass and on the unplaced list: 9, 10 and 11.
+// The findings on the mass and on the unplaced list: 9, 10 and 11. RULES: Findings: mass, Findings: unplaced
 ghost use mathlib.Core.Path.{_≡_};
-ghost use Prim.Native.Nat.{_+_, _≤_, _<_};
+ghost use Prim.Native.Nat.{_+_, _*_, _≤_, _<_};
 ghost use Rattle.domain.specs.Bounds.{mostKinds, mostUnplaced};
-ghost use Rattle.lists.specs.Below.{anyBelow};
-ghost use Rattle.check_words.specs.Words.{allBelow};
-ghost use Rattle.check_words.specs.Wrote.{Wrote};
-ghost use Rattle.check_list.specs.Finding.{isListed, massWords, lostWords, wrongWords};
-ghost use Rattle.check_list.specs.Runs.{missingIn, wrongIn};
+ghost use Rattle.lists.specs.Below.{anyBelow, allBelow, isAt};
+ghost use Rattle.check_words.specs.Wrote.{Wrote, mostWords};
+ghost use Rattle.check_list.specs.Finding.{massWords};
+ghost use Rattle.check_list.specs.View.{View, lostFound, wrongFound};
+ghost use Rattle.check_list.specs.Held.{LeftHeld, Ran};
 
 pub(crate) fn put_mass(out: &mut [u64], at: usize, mass: f64, limit: f64, t: f64) -> usize
-    requires { ⌜ at < 1000000 ⌝ }
+    requires { ⌜ at < mostWords ⌝ }
     ensures { λ r. ⌜ Wrote (now (out .entry)) at (massWords mass limit t) r (now (out .exit)) × (r ≤ at + 5) ⌝ }
 {
     let over = (0.0 < limit) & (limit + t < mass);
@@ -25,10 +25,17 @@ pub(crate) fn put_mass(out: &mut [u64], at: usize, mass: f64, limit: f64, t: f64
     )
 }
 
+// The cast of a word read from a column, which asks for no proof that it fits.
+fn wide(x: u32) -> u64
+    ensures { λ r. ⌜ r ≡ x ⌝ }
+{
+    x as u64
+}
+
 // Whether the id is among the first n.
 fn is_listed(ids: &[u32; domain::MOST_UNPLACED], n: usize, id: u32) -> bool
     requires { ⌜ n ≤ mostUnplaced ⌝ }
-    ensures { λ r. ⌜ r ≡ anyBelow (isListed (now (ids .entry)) id) n ⌝ }
+    ensures { λ r. ⌜ r ≡ anyBelow (isAt (now (ids .entry)) id) n ⌝ }
 {
     let mut found = false;
     let mut j = 0;
@@ -39,67 +46,54 @@ fn is_listed(ids: &[u32; domain::MOST_UNPLACED], n: usize, id: u32) -> bool
     found
 }
 
-// A kind that is short and not listed.
-fn put_lost(out: &mut [u64], at: usize, id: u32, short: bool, listed: bool) -> usize
-    requires { ⌜ at < 10000000 ⌝ }
-    ensures { λ r. ⌜ Wrote (now (out .entry)) at (lostWords id short listed) r (now (out .exit)) × (r ≤ at + 5) ⌝ }
-{
-    check_words::put_if(out, at, short & !listed, 10, id as u64, 0, 0, 0)
-}
-
-// An id that is no kind's, or a complete kind's, or listed before.
-fn put_wrongly(out: &mut [u64], at: usize, id: u32, known: bool, short: bool, before: bool) -> usize
-    requires { ⌜ at < 10000000 ⌝ }
-    ensures { λ r. ⌜ Wrote (now (out .entry)) at (wrongWords id known short before) r (now (out .exit)) × (r ≤ at + 5) ⌝ }
-{
-    let wrong = !known | (!short | before);
-    check_words::put_if(out, at, wrong, 11, id as u64, 0, 0, 0)
-}
-
-// What the first m kinds get, where u ids are listed as unplaced.
+// What the first m kinds get, where u ids are left: a kind that is short and not listed.
 pub(crate) fn put_missing(
     out: &mut [u64],
     at: usize,
     ids: &[u32; domain::MOST_KINDS],
     short: &[bool; domain::MOST_KINDS],
     m: usize,
-    unplaced: &[u32; domain::MOST_UNPLACED],
+    left: &[u32; domain::MOST_UNPLACED],
+    listed: &[usize; domain::MOST_UNPLACED],
     u: usize,
 ) -> usize
-    requires { ⌜ (m ≤ mostKinds) × ((u ≤ mostUnplaced) × (at < 1000000)) ⌝ }
-    ensures { λ r. ⌜ Wrote (now (out .entry)) at (allBelow (missingIn (now (ids .entry)) (now (short .entry)) (now (unplaced .entry)) u) m) r (now (out .exit)) × (r ≤ at + 320) ⌝ }
+    requires { ⌜ (m ≤ mostKinds) × ((u ≤ mostUnplaced) × (at + 5 * mostKinds < mostWords)) ⌝ }
+    ensures { λ r. ⌜ Ran (now (out .entry)) at m (LeftHeld m u (now (ids .entry)) (now (short .entry)) (now (left .entry)) (now (listed .entry)))
+        (λ (v : View). allBelow (lostFound v) m) r (now (out .exit)) ⌝ }
 {
     let mut p = at;
     let mut k = 0;
     while k < m {
         let id = ids[k];
-        let listed = is_listed(unplaced, u, id);
-        p = put_lost(out, p, id, short[k], listed);
+        let lost = short[k] & !is_listed(left, u, id);
+        p = check_words::put_if(out, p, lost, 10, wide(id), 0, 0, 0);
         k += 1;
     }
     p
 }
 
-// What the first u unplaced ids get, whose places among m kinds are `listed`.
+// What the first u unplaced ids get, whose places among m kinds are `listed`: an id that is no kind's, a complete kind's, or listed before.
 pub(crate) fn put_wrong(
     out: &mut [u64],
     at: usize,
-    listed: &[usize; domain::MOST_UNPLACED],
+    ids: &[u32; domain::MOST_KINDS],
     short: &[bool; domain::MOST_KINDS],
     m: usize,
-    unplaced: &[u32; domain::MOST_UNPLACED],
+    left: &[u32; domain::MOST_UNPLACED],
+    listed: &[usize; domain::MOST_UNPLACED],
     u: usize,
 ) -> usize
-    requires { ⌜ (u ≤ mostUnplaced) × (at < 1000000) ⌝ }
-    ensures { λ r. ⌜ Wrote (now (out .entry)) at (allBelow (wrongIn (now (listed .entry)) (now (short .entry)) m (now (unplaced .entry))) u) r (now (out .exit)) × (r ≤ at + 1280) ⌝ }
+    requires { ⌜ (u ≤ mostUnplaced) × (at + 5 * mostUnplaced ≤ mostWords) ⌝ }
+    ensures { λ r. ⌜ Ran (now (out .entry)) at u (LeftHeld m u (now (ids .entry)) (now (short .entry)) (now (left .entry)) (now (listed .entry)))
+        (λ (v : View). allBelow (wrongFound v) u) r (now (out .exit)) ⌝ }
 {
     let mut p = at;
     let mut i = 0;
     while i < u {
-        let id = unplaced[i];
-        let k = check_words::within(listed[i]);
-        let before = is_listed(unplaced, i, id);
-        p = put_wrongly(out, p, id, listed[i] < m, short[k], before);
+        let id = left[i];
+        let k = domain::place_within(listed[i]);
+        let wrong = !(listed[i] < m) | (!short[k] | is_listed(left, i, id));
+        p = check_words::put_if(out, p, wrong, 11, wide(id), 0, 0, 0);
         i += 1;
     }
     p

@@ -11,7 +11,7 @@ use lib.ListN.{length, length-append}
 use borrow.Author.Tests.{ltb-true, ltb-false, lt-ltb, le-ltb, eq-eqb, ne-eqb}
 use Rattle.lists.specs.Below.{anyBelow, sumBelow}
 use Rattle.domain.specs.Refusals.{when}
-use Rattle.check_packing.specs.Words.{allBelow}
+use Rattle.lists.specs.Below.{allBelow}
 
 -- ---- two numbers, and the three ways in which they can stand
 
@@ -119,5 +119,6 @@ count-one c i (suc n) = ap (λ (v : ℕ). v + when (eqb i n && c n) 1) (count-on
   where
     go : (i < n) ⊎ ((i ≡ n) ⊎ (n < i)) → when (ltb i n && c i) 1 + when (eqb i n && c n) 1 ≡ when (ltb i (suc n) && c i) 1
     go (inl l) = rw (lt-ltb i n l, ne-eqb i n (λ e. omega arith), lt-ltb i (suc n) (omega arith)) (add-zero (when (c i) 1))
-    go (inr (inl e)) = rw (le-ltb i n (omega arith), eq-eqb i n e, lt-ltb i (suc n) (omega arith)) (zero-add (when (c n) 1) ∙ ap (λ (k : ℕ). when (c k) 1) (sym e))
+    go (inr (inl e)) = rw (le-ltb i n (omega arith), eq-eqb i n e, lt-ltb i (suc n) (omega arith))
+        (zero-add (when (c n) 1) ∙ ap (λ (k : ℕ). when (c k) 1) (sym e))
     go (inr (inr g)) = rw (le-ltb i n (omega arith), ne-eqb i n (λ e. omega arith), le-ltb i (suc n) (omega arith))

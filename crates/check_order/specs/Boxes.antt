@@ -84,7 +84,8 @@ at-any q d h (v ∷ l) k zero = k .0
 at-any q d h (v ∷ l) k (suc i) = at-any q d h l (k .1) i
 
 axis-below : (r n : ℕ) → getD (getD orders r []) n 0 < 3
-axis-below r n = at-any (λ (row : List ℕ). getD row n 0 < 3) [] (lit< tt) orders (row 0 1 2 tt tt tt, (row 0 2 1 tt tt tt, (row 1 0 2 tt tt tt, (row 1 2 0 tt tt tt, (row 2 0 1 tt tt tt, (row 2 1 0 tt tt tt, tt)))))) r
+axis-below r n = at-any (λ (row : List ℕ). getD row n 0 < 3) [] (lit< tt) orders
+    (row 0 1 2 tt tt tt, (row 0 2 1 tt tt tt, (row 1 0 2 tt tt tt, (row 1 2 0 tt tt tt, (row 2 0 1 tt tt tt, (row 2 1 0 tt tt tt, tt)))))) r
   where
     row : (a b c : ℕ) → T (ltb a 3) → T (ltb b 3) → T (ltb c 3) → getD (a ∷ b ∷ c ∷ []) n 0 < 3
     row a b c p q r = at-any (λ (m : ℕ). m < 3) 0 (lit< tt) (a ∷ b ∷ c ∷ []) (lit< p, (lit< q, (lit< r, tt))) n
@@ -97,7 +98,8 @@ lengths-finite k i h = go (ltb i (length (shareOf (k .rule))))
     go true =
         let o = orderAt (k .rule) i in
         let r = getD (shareOf (k .rule)) i 0 in
-        all3 (λ v. T (finite v)) (turned (k .size) o) (size-finite k h (getD o 0 0) (axis-below r 0)) (size-finite k h (getD o 1 0) (axis-below r 1)) (size-finite k h (getD o 2 0) (axis-below r 2))
+        all3 (λ v. T (finite v)) (turned (k .size) o) (size-finite k h (getD o 0 0) (axis-below r 0)) (size-finite k h (getD o 1 0) (axis-below r 1))
+        (size-finite k h (getD o 2 0) (axis-below r 2))
     go false = size-finite k h
 
 -- ---- the box
@@ -112,6 +114,6 @@ box-solid s a l h e =
     let ends : (n : ℕ) → n < 3 → T (not (isNan (getD (l .at) n nan ⊕ getD size n nan))) =
     λ n m. add-number binary64 (getD (l .at) n nan) (getD size n nan) (near n m) (finite-number (getD size n nan) (sized n m)) in
     record {
-      near = near;
+      near = all3 (λ v. T (finite v)) (boxOf l k .min) (near 0 (lit< tt)) (near 1 (lit< tt)) (near 2 (lit< tt));
       far = all3 (λ v. T (not (isNan v))) (boxOf l k .max) (ends 0 (lit< tt)) (ends 1 (lit< tt)) (ends 2 (lit< tt));
     }

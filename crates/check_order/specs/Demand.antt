@@ -13,8 +13,9 @@ use Rattle.floats.specs.Whole.{Whole}
 use Rattle.sheet.specs.declared.Line.{Line}
 use Rattle.sheet.specs.declared.Sheet.{Sheet}
 use Rattle.sheet.specs.Sheets.{kindAt, lineAt, unplacedAt, sheetRefusal}
-use Rattle.check_packing.specs.Words.{onlyIf}
 use Rattle.check_packing.specs.Check.{checkedOf, cellsOf}
+use Rattle.check_words.specs.Words.{onlyIf}
+use Rattle.check_packing.specs.Findings.{findings, missing}
 
 -- ---- "two accepted sheets that differ only in the order of their placement lines"
 
@@ -127,7 +128,8 @@ pub record SameFindings (s : Sheet) (to : ℕ → ℕ) (a b : List ℕ) : Type 0
   -- "If all masses are whole numbers, the mass finding is identical too."
   pub mass : WholeMasses s → pick onMass a ≡ pick onMass b
 
--- ---- A finding that SameFindings compares, on a sheet of n lines: one on a line, on a pair, on the mass or on unplaced kinds. (3 is by its kind and instance.)
+-- ---- A finding that SameFindings compares, on a sheet of n lines: one on a line, on a pair, on the mass or on unplaced kinds. (3 is by its kind and
+-- instance.)
 abbrev pub Compared : ℕ → Finding → Type 0
 Compared n f =
     ((among (f .number) (1 ∷ 2 ∷ 3 ∷ 4 ∷ 5 ∷ 6 ∷ []) ≡ true) × (f .first < n))

@@ -18,10 +18,14 @@ use Rattle.sheet.specs.Sheets.{noKind, noLine, sameId, kindFaultIn, quantityOf,
 use Rattle.check_root.specs.Sqrt.{sqrtOf}
 use Rattle.check_pair.specs.Tolerance.{toleranceOf}
 use Rattle.check_pair.specs.Pair.{distanceOf, verdictAt}
-use Rattle.check_packing.specs.Words.{allBelow}
-use Rattle.check_packing.specs.Lines.{kindBelow, known, kindFor, sameAs, again, counted, packs, packed, short, isListed, massBelow}
-use Rattle.check_packing.specs.Findings.{nameWords, repeatWords, inside, placeWords, repeatFinding, lineFindings, verdictWords, verdictOn, pairWords, pairFinding, pairsFrom, massWords, massFinding, lostWords, missing, wrongWords, wronglyListed, findings}
+use Rattle.check_packing.specs.Lines.{kindBelow, known, kindFor, sameAs, again, counted, packs, packed, short, massBelow}
 use Rattle.check_order.specs.Demand.{Reordered}
+use Rattle.lists.specs.Below.{allBelow}
+use Rattle.check_list.specs.Finding.{boxInside, lostWords, massWords, nameWords, placeWords, repeatWords, verdictWords, wrongWords}
+use Rattle.check_list.specs.View.{findingsOf, lineFound, lostFound, massFound, pairFound, pairsFound, verdictFound, wrongFound}
+use Rattle.check_packing.specs.Findings.{findings}
+use Rattle.check_order.specs.ByLine.{pairWords, verdictOn}
+use Rattle.lists.specs.Below.{isAt}
 
 -- 0.1, 0.2, 0.3
 abbrev tenth : ℕ → Float
@@ -63,7 +67,8 @@ justUnder = ofBits binary64 0x3FE333332D4B5F1B
 
 -- both are accepted, and they differ only in the order of their lines
 pub two-orders : Reordered (loaded half rising) (loaded half falling)
-unfolding sheetRefusal kindFaultIn lineFaultIn lineFault kindFault containerFault sameId quantityOf orElse firstBelow anyBelow sumBelow ofBits toBits ofInt lt le neg
+unfolding sheetRefusal kindFaultIn lineFaultIn lineFault kindFault containerFault sameId quantityOf orElse firstBelow anyBelow sumBelow ofBits toBits
+    ofInt lt le neg
 two-orders =
     record {
       accepted-first = refl;
@@ -82,5 +87,7 @@ pub masses-apart :
     × (findings (loaded half falling) ≡ 9 ∷ 0x3FE3333333333333 ∷ 0x3FE0000000000000 ∷ 0 ∷ 0 ∷ [])
     × (findings (loaded justUnder rising) ≡ 9 ∷ 0x3FE3333333333334 ∷ 0x3FE333332D4B5F1B ∷ 0 ∷ 0 ∷ [])
     × (findings (loaded justUnder falling) ≡ [])
-unfolding findings lineFindings nameWords repeatWords repeatFinding inside placeWords verdictWords verdictOn pairWords pairFinding pairsFrom massWords massFinding lostWords missing wrongWords wronglyListed kindBelow known kindFor sameAs again counted packs packed short isListed massBelow allBelow anyBelow sumBelow lengthsIn toleranceOf verdictAt distanceOf sqrtOf toBits ofBits ofInt lt le neg add sub mul
+unfolding findings findingsOf lineFound nameWords repeatWords boxInside placeWords verdictWords verdictOn verdictFound pairWords pairFound pairsFound
+    massWords massFound lostWords lostFound wrongWords wrongFound kindBelow known kindFor sameAs again counted packs packed short isAt massBelow
+    allBelow anyBelow sumBelow lengthsIn toleranceOf verdictAt distanceOf sqrtOf toBits ofBits ofInt lt le neg add sub mul
 masses-apart = (refl, refl, refl, refl)

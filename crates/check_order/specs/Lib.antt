@@ -1,5 +1,6 @@
--- That the order of a sheet's lines does not matter to its check_list: the statement in Demand, the theorems in OrderOfLines, and what leads to them.
+-- That the order of a sheet's lines does not matter to its findings: the statement in Demand, the theorems in OrderOfLines, and what leads to them.
 pub mod Demand
+pub mod ByLine
 pub mod Bools
 pub mod Picked
 pub mod Below

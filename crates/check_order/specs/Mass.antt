@@ -14,6 +14,8 @@ use Rattle.floats.specs.Whole.{whole, none-whole, whole-add, whole-le}
 use Rattle.domain.specs.Ranges.{most, most-is, negativeZero, isLength, isMeasure}
 use Rattle.lists.specs.Below.{sumBelow}
 use Rattle.lists.specs.Bools.{or-right, and-left, and-right, not-true-of}
+use Rattle.domain.specs.Bounds.{mostLines}
+use Rattle.measures.specs.Asked.{hasMass}
 use Rattle.measures.specs.declared.Kind.{Kind}
 use Rattle.measures.specs.Faults.{measureFault}
 use Rattle.sheet.specs.declared.Line.{Line}
@@ -21,7 +23,6 @@ use Rattle.sheet.specs.declared.Sheet.{Sheet}
 use Rattle.sheet.specs.Sheets.{noKind, noLine, kindAt, lineAt}
 use Rattle.sheet.specs.Accepted.{Accepted}
 use Rattle.check_packing.specs.Lines.{kindOf, known, kindFor, tolerance, massOf, massBelow, mass}
-use Rattle.check_packing.specs.Findings.{massWords, massFinding, findings}
 use Rattle.check_order.specs.Demand.{pick, linesOf, onMass, WholeMasses}
 use Rattle.check_order.specs.Picked.{pick-every}
 use Rattle.check_order.specs.Below.{sum-most}
@@ -29,6 +30,9 @@ use Rattle.check_order.specs.Permuted.{sum-first}
 use Rattle.check_order.specs.Reordered.{other}
 use Rattle.check_order.specs.Parts.{apart, each-mass, pick-parts, no-lines, no-pairs, no-missing, no-listed}
 use Rattle.check_order.specs.Kinds.{known-same, kind-for-same}
+use Rattle.check_list.specs.Finding.{massWords}
+use Rattle.check_list.specs.View.{massFound}
+use Rattle.check_packing.specs.Findings.{findings, massFinding, missing}
 
 -- ---- what is picked
 
@@ -45,7 +49,7 @@ mass-picked s =
 
 -- ---- a sheet whose lines weigh whole numbers, g l for a line l
 
--- 1,000,000,000, and so many for each of 256 lines is below 2 ^ 53
+-- 1,000,000,000, and so many for each line that there can be is below 2 ^ 53
 abbrev heaviest : ℕ
 heaviest = 1000000000
 
@@ -54,7 +58,7 @@ record Weighs (s : Sheet) (g : Line → ℕ) : Type 0 where
   no-weight : (l : Line) → known s l ≡ false → g l ≡ 0
   light : (l : Line) → g l ≤ heaviest
 
-mass-sum : (s : Sheet) (g : Line → ℕ) → Weighs s g → (n : ℕ) → n ≤ 256 → massBelow s n ≡ whole (sumBelow (λ i. g (lineAt s i)) n)
+mass-sum : (s : Sheet) (g : Line → ℕ) → Weighs s g → (n : ℕ) → n ≤ mostLines → massBelow s n ≡ whole (sumBelow (λ i. g (lineAt s i)) n)
 unfolding massBelow sumBelow
 mass-sum s g w zero h = none-whole
 mass-sum s g w (suc n) h =
@@ -67,7 +71,8 @@ mass-sum s g w (suc n) h =
     step true e b f k =
         let before = sumBelow (λ i. g (lineAt s i)) n in
         let light = w .light (lineAt s n) in
-        ap (λ (v : Float). v ⊕ massOf (kindFor s (lineAt s n))) e ∙ ap (λ (v : Float). whole before ⊕ v) (f refl) ∙ whole-add before (g (lineAt s n)) (omega arith) (omega arith)
+        ap (λ (v : Float). v ⊕ massOf (kindFor s (lineAt s n))) e ∙ ap (λ (v : Float). whole before ⊕ v) (f refl) ∙ whole-add before (g (lineAt s n))
+        (omega arith) (omega arith)
     step false e b f k =
         let before = sumBelow (λ i. g (lineAt s i)) n in
         e ∙ ap whole (sym (ap (λ (v : ℕ). before + v) (k refl) ∙ add-zero before))
@@ -77,7 +82,8 @@ mass-sum s g w (suc n) h =
 mass-most : (k : Kind) → measureFault k ≡ false → T (le (k .mass) most)
 mass-most k h =
     let a = isMeasure (k .mass) in
-    let m : a ≡ true = not-true-of a (or-right (not (isLength (z (k .size)))) (not a) (or-right (not (isLength (y (k .size)))) _ (or-right (not (isLength (x (k .size)))) _ h))) in
+    let m : a ≡ true = not-true-of a
+    (or-right (not (isLength (z (k .size)))) (not a) (or-right (not (isLength (y (k .size)))) _ (or-right (not (isLength (x (k .size)))) _ h))) in
     let b = le none (k .mass) in
     let c = le (k .mass) most in
     subst T (sym (and-right b c (and-left (b && c) (not (negativeZero (k .mass))) m))) tt
@@ -89,7 +95,7 @@ most-whole = most-is
 module _ (s : Sheet) (a : Accepted s) (w : WholeMasses s) where
   -- the weight of a line of kind k, where k is one of the sheet's
   weightAt : (k : ℕ) (b : Bool) → (b ≡ true → k < s .many .kinds) → ℕ
-  weightAt k true h = cond (eqb (kindAt s k .massed) 0) 0 (w k (h refl) .0)
+  weightAt k true h = cond (hasMass (kindAt s k .massed)) (w k (h refl) .0) 0
   weightAt k false h = 0
 
   weightOf : Line → ℕ
@@ -98,11 +104,11 @@ module _ (s : Sheet) (a : Accepted s) (w : WholeMasses s) where
 
   weight-is : (k : ℕ) (b : Bool) (h : b ≡ true → k < s .many .kinds) → b ≡ true → massOf (kindAt s k) ≡ whole (weightAt k b h)
   unfolding weightAt
-  weight-is k true h e = go (eqb (kindAt s k .massed) 0)
+  weight-is k true h e = go (hasMass (kindAt s k .massed))
     where
-      go : (c : Bool) → cond c none (kindAt s k .mass) ≡ whole (cond c 0 (w k (h refl) .0))
-      go true = none-whole
-      go false = w k (h refl) .1
+      go : (c : Bool) → cond c (kindAt s k .mass) none ≡ whole (cond c (w k (h refl) .0) 0)
+      go true = w k (h refl) .1
+      go false = none-whole
   weight-is k false h e = absurd (false≢true e)
 
   weight-none : (k : ℕ) (b : Bool) (h : b ≡ true → k < s .many .kinds) → b ≡ false → weightAt k b h ≡ 0
@@ -112,13 +118,14 @@ module _ (s : Sheet) (a : Accepted s) (w : WholeMasses s) where
 
   weight-light : (k : ℕ) (b : Bool) (h : b ≡ true → k < s .many .kinds) → weightAt k b h ≤ heaviest
   unfolding weightAt
-  weight-light k true h = go (eqb (kindAt s k .massed) 0)
+  weight-light k true h = go (hasMass (kindAt s k .massed))
     where
-      go : (c : Bool) → cond c 0 (w k (h refl) .0) ≤ heaviest
-      go true = zero-le
-      go false =
+      go : (c : Bool) → cond c (w k (h refl) .0) 0 ≤ heaviest
+      go true =
           whole-le (w k (h refl) .0) heaviest (omega arith)
-          (subst (λ (v : Float). T (le (whole (w k (h refl) .0)) v)) most-whole (subst (λ (v : Float). T (le v most)) (w k (h refl) .1) (mass-most (kindAt s k) (a .kind-sound k (h refl) .measures-right))))
+          (subst (λ (v : Float). T (le (whole (w k (h refl) .0)) v)) most-whole
+          (subst (λ (v : Float). T (le v most)) (w k (h refl) .1) (mass-most (kindAt s k) (a .kind-sound k (h refl) .measures-right))))
+      go false = zero-le
   weight-light k false h = zero-le
 
   weights : Weighs s weightOf
@@ -151,9 +158,10 @@ module _ (s : Sheet) (ks : List Kind) (ls : List Line) (us : List ℕ)
   mass-same =
       let n = s .many .lines in
       let g = weightOf s a w in
-      mass-sum s g (weights s a w) n (a .few-of .lines) ∙ ap whole (sum-first noLine g n (s .lines) ls permuted) ∙ sym (mass-sum (other s ks ls us) g other-weights n (a .few-of .lines))
+      mass-sum s g (weights s a w) n (a .few-of .lines) ∙ ap whole (sum-first noLine g n (s .lines) ls permuted) ∙ sym
+      (mass-sum (other s ks ls us) g other-weights n (a .few-of .lines))
 
   -- "If all masses are whole numbers, the mass finding is identical too."
   pub mass-finding-same : pick onMass (findings s) ≡ pick onMass (findings (other s ks ls us))
-  unfolding massFinding
+  unfolding massFound
   mass-finding-same = mass-picked s ∙ ap (λ (v : Float). massWords v (s .container .limit) (tolerance s)) mass-same ∙ sym (mass-picked (other s ks ls us))

@@ -18,9 +18,9 @@ use Rattle.sheet.specs.declared.Line.{Line}
 use Rattle.sheet.specs.declared.Sheet.{Sheet}
 use Rattle.sheet.specs.Sheets.{noKind, noLine, kindAt, lineAt, unplacedAt, sheetRefusal}
 use Rattle.sheet.specs.Accepted.{Accepted, accepted}
-use Rattle.check_packing.specs.Findings.{ownFindings, pairWords, findings}
 use Rattle.check_packing.specs.Check.{checkRefusal, countOf, checkedOf, cellsOf}
-use Rattle.check_order.specs.Demand.{linesOf, Reordered, Renumbered, pick, change, ownOf, pairOf, lineAside, linesAside, SameFindings, written, Compared, Each}
+use Rattle.check_order.specs.Demand.{linesOf, Reordered, Renumbered, pick, change, ownOf, pairOf, lineAside, linesAside, SameFindings, written, Compared}
+use Rattle.check_order.specs.Demand.{Each}
 use Rattle.check_order.specs.Below.{three-ways}
 use Rattle.check_order.specs.Reordered.{other, as-other, renumbered}
 use Rattle.check_order.specs.Parts.{Any, each-line, each-from, each-mass, each-missing, each-listed, each-finding, findings-whole}
@@ -30,6 +30,8 @@ use Rattle.check_order.specs.Pairs.{pair-found, no-pair}
 use Rattle.check_order.specs.Repeats.{repeated-same}
 use Rattle.check_order.specs.Unplaced.{unplaced-same}
 use Rattle.check_order.specs.Mass.{mass-finding-same}
+use Rattle.check_packing.specs.Findings.{findings, missing}
+use Rattle.check_order.specs.ByLine.{ownFindings, pairWords}
 
 -- ---- the second sheet as the first with other lists
 
@@ -41,7 +43,8 @@ module _ (s : Sheet) (ks : List Kind) (ls : List Line) (us : List ℕ)
     (to : ℕ → ℕ) (to-below : (i : ℕ) → i < s .many .lines → to i < s .many .lines)
     (to-apart : (i j : ℕ) → i < s .many .lines → j < s .many .lines → to i ≡ to j → i ≡ j)
     (same-line : (i : ℕ) → i < s .many .lines → getD ls (to i) noLine ≡ lineAt s i) where
-  own-again : (i : ℕ) → i < s .many .lines → change lineAside (pick (ownOf i) (findings s)) ≡ change lineAside (pick (ownOf (to i)) (findings (other s ks ls us)))
+  own-again : (i : ℕ) → i < s .many .lines
+      → change lineAside (pick (ownOf i) (findings s)) ≡ change lineAside (pick (ownOf (to i)) (findings (other s ks ls us)))
   own-again i h =
       let t = other s ks ls us in
       ap (change lineAside) (own-picked s i h)
@@ -64,7 +67,8 @@ module _ (s : Sheet) (ks : List Kind) (ls : List Line) (us : List ℕ)
       → change linesAside (pick (pairOf i j) (findings s)) ≡ change linesAside (pick (pairOf (to i) (to j)) (findings (other s ks ls us)))
   any-pair-again i j h k = go (three-ways i j)
     where
-      go : (i < j) ⊎ ((i ≡ j) ⊎ (j < i)) → change linesAside (pick (pairOf i j) (findings s)) ≡ change linesAside (pick (pairOf (to i) (to j)) (findings (other s ks ls us)))
+      go : (i < j) ⊎ ((i ≡ j) ⊎ (j < i))
+          → change linesAside (pick (pairOf i j) (findings s)) ≡ change linesAside (pick (pairOf (to i) (to j)) (findings (other s ks ls us)))
       go (inl l) = pair-again i j h k (λ e. omega arith)
       go (inr (inl e)) =
           let t = other s ks ls us in
@@ -133,13 +137,15 @@ words-counted s =
 -- an accepted sheet, with room lent for all findings, is not refused
 pub not-refused : (s : Sheet) (o : List ℕ) → sheetRefusal s ≡ 0 → length (findings s) ≤ length o → checkedOf s o .refused ≡ 0
 unfolding checkedOf checkRefusal orElse
-not-refused s o h l = ap (λ (v : ℕ). orElse v (when (ltb (length o) (length (findings s))) 6)) h ∙ ap (λ (v : Bool). when v 6) (le-ltb (length o) (length (findings s)) l)
+not-refused s o h l = ap (λ (v : ℕ). orElse v (when (ltb (length o) (length (findings s))) 6)) h ∙ ap (λ (v : Bool). when v 6)
+    (le-ltb (length o) (length (findings s)) l)
 
 -- and where it is not refused, what it writes are the findings
 pub written-findings : (s : Sheet) (o : List ℕ) → checkedOf s o .refused ≡ 0 → written s o ≡ findings s
 unfolding checkedOf checkRefusal countOf cellsOf
 written-findings s o h =
-    ap (λ (v : Bool). take (5 * cond v (length (findings s) / 5) 0) (cellsOf s o)) (eq-eqb (sheetRefusal s) 0 (or-else-first (sheetRefusal s) (when (ltb (length o) (length (findings s))) 6) h))
+    ap (λ (v : Bool). take (5 * cond v (length (findings s) / 5) 0) (cellsOf s o))
+    (eq-eqb (sheetRefusal s) 0 (or-else-first (sheetRefusal s) (when (ltb (length o) (length (findings s))) 6) h))
     ∙ ap (λ (v : ℕ). take v (cellsOf s o)) (words-counted s)
     ∙ ap (λ (v : Bool). take (length (findings s)) (cond v (findings s ++ drop (length (findings s)) o) o)) (eq-eqb (checkRefusal s o) 0 h)
     ∙ take-append-seam (findings s) (drop (length (findings s)) o)

@@ -19,11 +19,17 @@ use Rattle.sheet.specs.declared.Sheet.{Sheet}
 use Rattle.sheet.specs.Sheets.{kindAt, lineAt, unplacedAt}
 use Rattle.check_pair.specs.declared.Verdict.{Verdict}
 use Rattle.check_pair.specs.declared.Verdict.the-variants.{Apart, Overlap, TooClose}
-use Rattle.check_packing.specs.Words.{onlyIf, allBelow}
-use Rattle.check_packing.specs.Lines.{kindOf, isKnown, known, kindFor, inRange, repeats, short, isListed, boxOf, tolerance, mass}
-use Rattle.check_packing.specs.Findings.{inside, nameWords, repeatWords, placeWords, repeatFinding, lineFindings, verdictWords, verdictOn, pairWords, pairFinding, pairsFrom, massWords, massFinding, lostWords, missing, wrongWords, wronglyListed, findings}
+use Rattle.check_packing.specs.Lines.{kindOf, isKnown, known, kindFor, inRange, repeats, short, boxOf, tolerance, mass}
 use Rattle.check_order.specs.Demand.{Finding, finding, wordsOf, pick, among, Each}
 use Rattle.check_order.specs.Picked.{each-if, each-append, each-below, pick-append, pick-none}
+use Rattle.lists.specs.Below.{allBelow}
+use Rattle.check_words.specs.Words.{onlyIf}
+use Rattle.check_list.specs.Finding.{boxInside, lostWords, massWords, nameWords, placeWords, repeatWords, verdictWords, wrongWords}
+use Rattle.check_list.specs.View.{findingsOf, lineFound, lostFound, massFound, pairFound, pairsFound, wrongFound}
+use Rattle.check_packing.specs.Findings.{findings, lineFindings, massFinding, missing, pairFinding, pairsFrom, wronglyListed}
+use Rattle.check_order.specs.ByLine.{pairWords, repeatFinding, verdictOn}
+use Rattle.lists.specs.Below.{isAt}
+use Rattle.check_list.specs.View.{verdictFound}
 
 -- of two lists with no number in common, what is among the one is not among the other
 abbrev pub meet : List ℕ → List ℕ → Bool
@@ -44,32 +50,35 @@ module _ (q : Finding → Type 0) where
   each-join : (b : Bool) (f : Finding) (ws : List ℕ) → q f → Each q ws → Each q (onlyIf b (wordsOf f) ++ ws)
   each-join b f ws h k = each-append q (onlyIf b (wordsOf f)) ws (each-if q b f h) k
 
-  pub each-name : (i : ℕ) (l : Line) (b : Bool) (k : Kind) → ((id : ℕ) → q (finding 1 i id 0 0)) → ((id n m : ℕ) → q (finding 2 i id n m)) → Each q (nameWords i l b k)
+  pub each-name : (i : ℕ) (l : Line) (b : Bool) (k : Kind) → ((id : ℕ) → q (finding 1 i id 0 0)) → ((id n m : ℕ) → q (finding 2 i id n m))
+      → Each q (nameWords i l b k)
   unfolding nameWords
   each-name i l b k h₁ h₂ =
       each-join (not b) (finding 1 i (l .id) 0 0) (onlyIf (b && not (inRange l k)) (2 ∷ i ∷ l .id ∷ l .instance ∷ k .quantity ∷ [])) (h₁ (l .id))
       (each-if q (b && not (inRange l k)) (finding 2 i (l .id) (l .instance) (k .quantity)) (h₂ (l .id) (l .instance) (k .quantity)))
 
   pub each-repeat : (s : Sheet) (i : ℕ) → q (finding 3 i (lineAt s i .id) (lineAt s i .instance) 0) → Each q (repeatFinding s i)
-  unfolding repeatFinding repeatWords
+  unfolding repeatWords
   each-repeat s i h = each-if q (repeats s i) (finding 3 i (lineAt s i .id) (lineAt s i .instance) 0) h
 
   pub each-place : (c : Container) (i : ℕ) (l : Line) (b : Bool) (k : Kind)
-      → ((id o : ℕ) → q (finding 4 i id o 0)) → ((n : ℕ) → q (finding 5 i n 0 0)) → ((id : ℕ) → q (finding 6 i id 0 0)) → Each q (placeWords c i l b k)
+      → ((id o : ℕ) → q (finding 4 i id o 0)) → ((n : ℕ) → q (finding 5 i n 0 0)) → ((id : ℕ) → q (finding 6 i id 0 0)) → Each q
+      (placeWords c i l b k (boxOf l k))
   unfolding placeWords
   each-place c i l b k h₄ h₅ h₆ =
-      let outside = b && not (inside c (toleranceOf (c .size)) (boxOf l k)) in
+      let outside = b && not (boxInside c (toleranceOf (c .size)) (boxOf l k)) in
       let last = onlyIf outside (6 ∷ i ∷ l .id ∷ 0 ∷ 0 ∷ []) in
-      each-join (b && leb (length (shareOf (k .rule))) (l .orientation)) (finding 4 i (l .id) (l .orientation) 0) (onlyIf (b && ltb 0 (l .bin)) (5 ∷ i ∷ l .bin ∷ 0 ∷ 0 ∷ []) ++ last)
+      each-join (b && leb (length (shareOf (k .rule))) (l .orientation)) (finding 4 i (l .id) (l .orientation) 0)
+      (onlyIf (b && ltb 0 (l .bin)) (5 ∷ i ∷ l .bin ∷ 0 ∷ 0 ∷ []) ++ last)
       (h₄ (l .id) (l .orientation))
       (each-join (b && ltb 0 (l .bin)) (finding 5 i (l .bin) 0 0) last (h₅ (l .bin)) (each-if q outside (finding 6 i (l .id) 0 0) (h₆ (l .id))))
 
   -- line by line, where all that matters is the number and the line
   pub each-line : (s : Sheet) (i : ℕ) → ((c a b d : ℕ) → among c (1 ∷ 2 ∷ 3 ∷ 4 ∷ 5 ∷ 6 ∷ []) ≡ true → q (finding c i a b d)) → Each q (lineFindings s i)
-  unfolding lineFindings
+  unfolding lineFound
   each-line s i h =
       let l = lineAt s i in
-      let place = placeWords (s .container) i l (known s l) (kindFor s l) in
+      let place = placeWords (s .container) i l (known s l) (kindFor s l) (boxOf l (kindFor s l)) in
       each-append q (nameWords i l (known s l) (kindFor s l)) (repeatFinding s i ++ place)
       (each-name i l (known s l) (kindFor s l) (λ a. h 1 a 0 0 refl) (λ a b d. h 2 a b d refl))
       (each-append q (repeatFinding s i) place (each-repeat s i (h 3 (l .id) (l .instance) 0 refl))
@@ -86,36 +95,38 @@ module _ (q : Finding → Type 0) where
   each-where false ws h = tt
 
   pub each-pair : (s : Sheet) (i j : ℕ) → (i < j → (c d e : ℕ) → among c (7 ∷ 8 ∷ []) ≡ true → q (finding c i j d e)) → Each q (pairFinding s i j)
-  unfolding pairFinding pairWords
+  unfolding pairFound pairWords verdictFound verdictOn
   each-pair s i j h =
       let ws = verdictWords i j (s .container .spacing) (verdictOn s (lineAt s i) (lineAt s j)) in
       let b = known s (lineAt s i) && known s (lineAt s j) in
       each-where (ltb i j) (onlyIf b ws)
       (λ e. each-where b ws
-      (λ _. each-verdict i j (s .container .spacing) (verdictOn s (lineAt s i) (lineAt s j)) (h (ltb-true i j e) 7 0 0 refl) (λ d f. h (ltb-true i j e) 8 d f refl)))
+      (λ _. each-verdict i j (s .container .spacing) (verdictOn s (lineAt s i) (lineAt s j)) (h (ltb-true i j e) 7 0 0 refl)
+      (λ d f. h (ltb-true i j e) 8 d f refl)))
 
-  pub each-from : (s : Sheet) (i : ℕ) → ((j : ℕ) → j < s .many .lines → i < j → (c d e : ℕ) → among c (7 ∷ 8 ∷ []) ≡ true → q (finding c i j d e)) → Each q (pairsFrom s i)
-  unfolding pairsFrom
+  pub each-from : (s : Sheet) (i : ℕ) → ((j : ℕ) → j < s .many .lines → i < j → (c d e : ℕ) → among c (7 ∷ 8 ∷ []) ≡ true → q (finding c i j d e))
+      → Each q (pairsFrom s i)
+  unfolding pairsFound
   each-from s i h = each-below q (pairFinding s i) (s .many .lines) (λ j l. each-pair s i j (h j l))
 
   pub each-mass : (s : Sheet) → ((m l : ℕ) → q (finding 9 m l 0 0)) → Each q (massFinding s)
-  unfolding massFinding massWords
+  unfolding massFound massWords
   each-mass s h =
       let m = toBits binary64 (mass s) in
       let l = toBits binary64 (s .container .limit) in
       each-if q (lt none (s .container .limit) && lt (s .container .limit ⊕ tolerance s) (mass s)) (finding 9 m l 0 0) (h m l)
 
   pub each-missing : (s : Sheet) (k : ℕ) → ((id : ℕ) → q (finding 10 id 0 0 0)) → Each q (missing s k)
-  unfolding missing lostWords
+  unfolding lostFound lostWords
   each-missing s k h =
       let id = kindAt s k .id in
-      each-if q (short s k && not (anyBelow (isListed (s .unplaced) id) (s .many .unplaced))) (finding 10 id 0 0 0) (h id)
+      each-if q (short s k && not (anyBelow (isAt (s .unplaced) id) (s .many .unplaced))) (finding 10 id 0 0 0) (h id)
 
   pub each-listed : (s : Sheet) (i : ℕ) → ((id : ℕ) → q (finding 11 id 0 0 0)) → Each q (wronglyListed s i)
-  unfolding wronglyListed wrongWords
+  unfolding wrongFound wrongWords
   each-listed s i h =
       let id = unplacedAt s i in
-      each-if q (not (isKnown s id) || (not (short s (kindOf s id)) || anyBelow (isListed (s .unplaced) id) i)) (finding 11 id 0 0 0) (h id)
+      each-if q (not (isKnown s id) || (not (short s (kindOf s id)) || anyBelow (isAt (s .unplaced) id) i)) (finding 11 id 0 0 0) (h id)
 
 -- ---- what is picked out of all
 
@@ -142,7 +153,7 @@ pub each-finding : (q : Finding → Type 0) (s : Sheet)
     → ((k : ℕ) → Each q (missing s k))
     → ((i : ℕ) → Each q (wronglyListed s i))
     → Each q (findings s)
-unfolding findings
+unfolding findings findingsOf
 each-finding q s ha hb hc hd he =
     let n = s .many .lines in
     let d = allBelow (missing s) (s .many .kinds) in
@@ -164,7 +175,7 @@ module _ (p : Finding → Bool) (s : Sheet) where
       ++ (pick p (massFinding s)
       ++ (pick p (allBelow (missing s) (s .many .kinds))
       ++ pick p (allBelow (wronglyListed s) (s .many .unplaced)))))
-  unfolding findings
+  unfolding findings findingsOf
   pick-parts =
       let n = s .many .lines in
       let a = allBelow (lineFindings s) n in
@@ -180,17 +191,22 @@ module _ (p : Finding → Bool) (s : Sheet) where
       ∙ ap (λ (v : List ℕ). pick p c ++ v) (pick-append p Any d e (each-below Any (missing s) (s .many .kinds) (λ k l. missing-whole s k)))))
 
   -- a test that no finding of a part passes picks none of them
-  pub no-lines : ((c i a b d : ℕ) → among c (1 ∷ 2 ∷ 3 ∷ 4 ∷ 5 ∷ 6 ∷ []) ≡ true → p (finding c i a b d) ≡ false) → pick p (allBelow (lineFindings s) (s .many .lines)) ≡ []
-  no-lines h = pick-none p (allBelow (lineFindings s) (s .many .lines)) (each-below (λ f. p f ≡ false) (lineFindings s) (s .many .lines) (λ i l. each-line (λ f. p f ≡ false) s i (λ c a b d. h c i a b d)))
+  pub no-lines : ((c i a b d : ℕ) → among c (1 ∷ 2 ∷ 3 ∷ 4 ∷ 5 ∷ 6 ∷ []) ≡ true → p (finding c i a b d) ≡ false)
+      → pick p (allBelow (lineFindings s) (s .many .lines)) ≡ []
+  no-lines h = pick-none p (allBelow (lineFindings s) (s .many .lines))
+      (each-below (λ f. p f ≡ false) (lineFindings s) (s .many .lines) (λ i l. each-line (λ f. p f ≡ false) s i (λ c a b d. h c i a b d)))
 
   pub no-pairs : ((c i j d e : ℕ) → among c (7 ∷ 8 ∷ []) ≡ true → p (finding c i j d e) ≡ false) → pick p (allBelow (pairsFrom s) (s .many .lines)) ≡ []
-  no-pairs h = pick-none p (allBelow (pairsFrom s) (s .many .lines)) (each-below (λ f. p f ≡ false) (pairsFrom s) (s .many .lines) (λ i m. each-from (λ f. p f ≡ false) s i (λ j k l c d e. h c i j d e)))
+  no-pairs h = pick-none p (allBelow (pairsFrom s) (s .many .lines))
+      (each-below (λ f. p f ≡ false) (pairsFrom s) (s .many .lines) (λ i m. each-from (λ f. p f ≡ false) s i (λ j k l c d e. h c i j d e)))
 
   pub no-mass : ((m l : ℕ) → p (finding 9 m l 0 0) ≡ false) → pick p (massFinding s) ≡ []
   no-mass h = pick-none p (massFinding s) (each-mass (λ f. p f ≡ false) s h)
 
   pub no-missing : ((id : ℕ) → p (finding 10 id 0 0 0) ≡ false) → pick p (allBelow (missing s) (s .many .kinds)) ≡ []
-  no-missing h = pick-none p (allBelow (missing s) (s .many .kinds)) (each-below (λ f. p f ≡ false) (missing s) (s .many .kinds) (λ k l. each-missing (λ f. p f ≡ false) s k h))
+  no-missing h = pick-none p (allBelow (missing s) (s .many .kinds))
+      (each-below (λ f. p f ≡ false) (missing s) (s .many .kinds) (λ k l. each-missing (λ f. p f ≡ false) s k h))
 
   pub no-listed : ((id : ℕ) → p (finding 11 id 0 0 0) ≡ false) → pick p (allBelow (wronglyListed s) (s .many .unplaced)) ≡ []
-  no-listed h = pick-none p (allBelow (wronglyListed s) (s .many .unplaced)) (each-below (λ f. p f ≡ false) (wronglyListed s) (s .many .unplaced) (λ i l. each-listed (λ f. p f ≡ false) s i h))
+  no-listed h = pick-none p (allBelow (wronglyListed s) (s .many .unplaced))
+      (each-below (λ f. p f ≡ false) (wronglyListed s) (s .many .unplaced) (λ i l. each-listed (λ f. p f ≡ false) s i h))

@@ -4,8 +4,10 @@ use mathlib.Core.Bool.{Bool, true, false, _&&_}
 use mathlib.Core.List.{List, [], _∷_, _++_, append-assoc, append-nil}
 use Prim.Native.Nat.{ℕ, zero, suc, _<_}
 use native.Mathlib.Omega.{arith}
-use Rattle.check_packing.specs.Words.{onlyIf, allBelow}
 use Rattle.check_order.specs.Demand.{Finding, finding, wordsOf, pick, change, Each}
+use Rattle.lists.specs.Below.{allBelow}
+use Rattle.check_words.specs.Words.{onlyIf}
+use Rattle.check_packing.specs.Findings.{findings}
 
 -- ---- whole findings, each of which is so
 
@@ -79,12 +81,15 @@ pick-same p q h (c ∷ a ∷ []) = refl
 pick-same p q h (c ∷ a ∷ b ∷ []) = refl
 pick-same p q h (c ∷ a ∷ b ∷ d ∷ []) = refl
 pick-same p q h (c ∷ a ∷ b ∷ d ∷ e ∷ ws) =
-    ap (λ (t : Bool). onlyIf t (c ∷ a ∷ b ∷ d ∷ e ∷ []) ++ pick p ws) (h (finding c a b d e)) ∙ ap (λ (v : List ℕ). onlyIf (q (finding c a b d e)) (c ∷ a ∷ b ∷ d ∷ e ∷ []) ++ v) (pick-same p q h ws)
+    ap (λ (t : Bool). onlyIf t (c ∷ a ∷ b ∷ d ∷ e ∷ []) ++ pick p ws) (h (finding c a b d e)) ∙ ap
+    (λ (v : List ℕ). onlyIf (q (finding c a b d e)) (c ∷ a ∷ b ∷ d ∷ e ∷ []) ++ v) (pick-same p q h ws)
 
-pub pick-below : (p : Finding → Bool) (q : Finding → Type 0) (g : ℕ → List ℕ) → ((k : ℕ) → Each q (g k)) → (n : ℕ) → pick p (allBelow g n) ≡ allBelow (λ k. pick p (g k)) n
+pub pick-below : (p : Finding → Bool) (q : Finding → Type 0) (g : ℕ → List ℕ) → ((k : ℕ) → Each q (g k)) → (n : ℕ)
+    → pick p (allBelow g n) ≡ allBelow (λ k. pick p (g k)) n
 unfolding allBelow
 pick-below p q g h zero = unfold pick in refl
-pick-below p q g h (suc n) = pick-append p q (allBelow g n) (g n) (each-below q g n (λ k l. h k)) ∙ ap (λ (v : List ℕ). v ++ pick p (g n)) (pick-below p q g h n)
+pick-below p q g h (suc n) = pick-append p q (allBelow g n) (g n) (each-below q g n (λ k l. h k)) ∙ ap (λ (v : List ℕ). v ++ pick p (g n))
+    (pick-below p q g h n)
 
 pub change-append : (f : Finding → Finding) (q : Finding → Type 0) (a b : List ℕ) → Each q a → change f (a ++ b) ≡ change f a ++ change f b
 unfolding change

@@ -25,7 +25,8 @@ as-other s t c m =
 
 -- ---- a permutation carries the line numbers over
 
-renumbered-other : (s : Sheet) (ks : List Kind) (ls : List Line) (us : List ℕ) → List·Permᴰ (linesOf s) (linesOf (other s ks ls us)) → Renumbered s (other s ks ls us)
+renumbered-other : (s : Sheet) (ks : List Kind) (ls : List Line) (us : List ℕ) → List·Permᴰ (linesOf s) (linesOf (other s ks ls us))
+    → Renumbered s (other s ks ls us)
 renumbered-other s ks ls us p =
     let n = s .many .lines in
     let m : Places noLine (take n (s .lines)) (take n ls) = places noLine p in

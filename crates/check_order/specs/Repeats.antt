@@ -13,9 +13,7 @@ use Rattle.measures.specs.declared.Kind.{Kind}
 use Rattle.sheet.specs.declared.Line.{Line}
 use Rattle.sheet.specs.declared.Sheet.{Sheet}
 use Rattle.sheet.specs.Sheets.{noKind, noLine, kindAt, lineAt}
-use Rattle.check_packing.specs.Words.{onlyIf, allBelow}
 use Rattle.check_packing.specs.Lines.{kindOf, isKnown, known, kindFor, sameAs, again, counted, repeats}
-use Rattle.check_packing.specs.Findings.{nameWords, repeatWords, placeWords, repeatFinding, lineFindings, findings}
 use Rattle.check_order.specs.Demand.{Finding, finding, wordsOf, pick, among, linesOf, repeatOf}
 use Rattle.check_order.specs.Picked.{pick-append, pick-if, pick-none, pick-below}
 use Rattle.lists.specs.Below.{sum-same, any-same}
@@ -24,6 +22,13 @@ use Rattle.check_order.specs.Permuted.{sum-first}
 use Rattle.check_order.specs.Reordered.{other}
 use Rattle.check_order.specs.Parts.{apart, Any, each-name, each-repeat, each-place, lines-whole, pick-parts, no-pairs, no-mass, no-missing, no-listed}
 use Rattle.check_order.specs.Kinds.{counted-same}
+use Rattle.lists.specs.Below.{allBelow}
+use Rattle.check_words.specs.Words.{onlyIf}
+use Rattle.check_list.specs.Finding.{nameWords, placeWords, repeatWords}
+use Rattle.check_list.specs.View.{lineFound}
+use Rattle.check_packing.specs.Findings.{findings, lineFindings, missing}
+use Rattle.check_order.specs.ByLine.{repeatFinding}
+use Rattle.check_packing.specs.Lines.{boxOf}
 
 -- the line names this kind and instance
 abbrev pub names : ℕ → ℕ → Line → Bool
@@ -46,18 +51,20 @@ module _ (s : Sheet) (id instance : ℕ) where
   -- ---- what is picked
 
   picked-at : (k : ℕ) → length (pick (repeatOf id instance) (lineFindings s k)) ≡ when (repeats s k && names id instance (lineAt s k)) 5
-  unfolding lineFindings repeatFinding repeatWords
+  unfolding lineFound repeatWords
   picked-at k =
       let p = repeatOf id instance in
       let l = lineAt s k in
       let name = nameWords k l (known s l) (kindFor s l) in
-      let place = placeWords (s .container) k l (known s l) (kindFor s l) in
+      let place = placeWords (s .container) k l (known s l) (kindFor s l) (boxOf l (kindFor s l)) in
       let f = finding 3 k (l .id) (l .instance) 0 in
       ap length
       (pick-append p Any name (repeatFinding s k ++ place) (each-name Any k l (known s l) (kindFor s l) (λ a. tt) (λ a b d. tt))
-      ∙ ap (λ (v : List ℕ). v ++ pick p (repeatFinding s k ++ place)) (pick-none p name (each-name (λ g. p g ≡ false) k l (known s l) (kindFor s l) (λ a. refl) (λ a b d. refl)))
+      ∙ ap (λ (v : List ℕ). v ++ pick p (repeatFinding s k ++ place))
+      (pick-none p name (each-name (λ g. p g ≡ false) k l (known s l) (kindFor s l) (λ a. refl) (λ a b d. refl)))
       ∙ pick-append p Any (repeatFinding s k) place (each-repeat Any s k tt)
-      ∙ ap (λ (v : List ℕ). pick p (repeatFinding s k) ++ v) (pick-none p place (each-place (λ g. p g ≡ false) (s .container) k l (known s l) (kindFor s l) (λ a b. refl) (λ a. refl) (λ a. refl)))
+      ∙ ap (λ (v : List ℕ). pick p (repeatFinding s k) ++ v)
+      (pick-none p place (each-place (λ g. p g ≡ false) (s .container) k l (known s l) (kindFor s l) (λ a b. refl) (λ a. refl) (λ a. refl)))
       ∙ append-nil (pick p (repeatFinding s k))
       ∙ pick-if p (repeats s k) f)
       ∙ length-if (repeats s k && p f) f
@@ -96,25 +103,30 @@ module _ (s : Sheet) (id instance : ℕ) where
       let l = lineAt s k in
       any-same (sameAs (s .lines) k) (λ j. names id instance (lineAt s j)) k
       (λ j m.
-      ap (λ (v : ℕ). eqb (lineAt s j .id) v && eqb (lineAt s j .instance) (l .instance)) (eqb-true (l .id) id (and-left (eqb (l .id) id) (eqb (l .instance) instance) h))
-      ∙ ap (λ (v : ℕ). eqb (lineAt s j .id) id && eqb (lineAt s j .instance) v) (eqb-true (l .instance) instance (and-right (eqb (l .id) id) (eqb (l .instance) instance) h)))
+      ap (λ (v : ℕ). eqb (lineAt s j .id) v && eqb (lineAt s j .instance) (l .instance))
+      (eqb-true (l .id) id (and-left (eqb (l .id) id) (eqb (l .instance) instance) h))
+      ∙ ap (λ (v : ℕ). eqb (lineAt s j .id) id && eqb (lineAt s j .instance) v)
+      (eqb-true (l .instance) instance (and-right (eqb (l .id) id) (eqb (l .instance) instance) h)))
 
   sum-named : (c : Bool) (p : ℕ → Bool) (n : ℕ) → sumBelow (λ k. when (c && (p k && anyBelow p k)) 5) n ≡ cond c (5 * (count p n - 1)) 0
   sum-named true p n = count-again p n
   sum-named false p n = sum-none (λ k. 0) n (λ k l. refl)
 
   -- five words for each line that names it, but for one
-  pub repeated-times : length (pick (repeatOf id instance) (findings s)) ≡ cond (counted s (naming id instance)) (5 * (count (λ k. names id instance (lineAt s k)) (s .many .lines) - 1)) 0
+  pub repeated-times : length (pick (repeatOf id instance) (findings s)) ≡ cond (counted s (naming id instance))
+      (5 * (count (λ k. names id instance (lineAt s k)) (s .many .lines) - 1)) 0
   repeated-times =
       let p : ℕ → Bool = λ k. names id instance (lineAt s k) in
       let c = counted s (naming id instance) in
       picked-all
       ∙ sum-same (λ k. when (repeats s k && p k) 5) (λ k. when (c && (p k && anyBelow p k)) 5) (s .many .lines)
-      (λ k l. ap (λ (v : Bool). when v 5) (at-named (counted s (lineAt s k)) (again (s .lines) k) (p k) c (anyBelow p k) (counted-named (lineAt s k)) (again-named k)))
+      (λ k l. ap (λ (v : Bool). when v 5)
+      (at-named (counted s (lineAt s k)) (again (s .lines) k) (p k) c (anyBelow p k) (counted-named (lineAt s k)) (again-named k)))
       ∙ sum-named c p (s .many .lines)
 
 -- ---- so with the same kinds, and lines in another order, it is the same
-pub repeated-same : (s : Sheet) (ks : List Kind) (ls : List Line) (us : List ℕ) → ((k : ℕ) → k < s .many .kinds → kindAt s k ≡ getD ks k noKind) → List·Permᴰ (linesOf s) (linesOf (other s ks ls us))
+pub repeated-same : (s : Sheet) (ks : List Kind) (ls : List Line) (us : List ℕ) → ((k : ℕ) → k < s .many .kinds → kindAt s k ≡ getD ks k noKind)
+    → List·Permᴰ (linesOf s) (linesOf (other s ks ls us))
     → (id instance : ℕ) → length (pick (repeatOf id instance) (findings s)) ≡ length (pick (repeatOf id instance) (findings (other s ks ls us)))
 repeated-same s ks ls us same p id instance =
     let t = other s ks ls us in

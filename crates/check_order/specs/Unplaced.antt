@@ -1,4 +1,5 @@
--- The findings on unplaced kinds. How many copies of a kind are packed is how many different instances in range some line names, so the order of the lines does not matter.
+-- The findings on unplaced kinds. How many copies of a kind are packed is how many different instances in range some line names, so the order of the
+-- lines does not matter.
 use mathlib.Core.Path.{_≡_, refl, sym, ap, _∙_}
 use mathlib.Core.Bool.{Bool, true, false, not, _&&_, _||_, and-true, and-assoc}
 use mathlib.Core.List.{List, [], _∷_, _++_, List·Permᴰ}
@@ -14,9 +15,7 @@ use Rattle.measures.specs.declared.Kind.{Kind}
 use Rattle.sheet.specs.declared.Line.{Line}
 use Rattle.sheet.specs.declared.Sheet.{Sheet}
 use Rattle.sheet.specs.Sheets.{noKind, noLine, kindAt, lineAt, unplacedAt}
-use Rattle.check_packing.specs.Words.{onlyIf, allBelow}
-use Rattle.check_packing.specs.Lines.{kindOf, isKnown, known, kindFor, inRange, sameAs, again, counted, packs, packed, short, isListed}
-use Rattle.check_packing.specs.Findings.{lostWords, missing, wrongWords, wronglyListed, findings}
+use Rattle.check_packing.specs.Lines.{kindOf, isKnown, known, kindFor, inRange, sameAs, again, counted, packs, packed, short}
 use Rattle.check_order.specs.Demand.{pick, linesOf, onUnplaced}
 use Rattle.check_order.specs.Picked.{each-below, pick-every}
 use Rattle.lists.specs.Bools.{same-bool, and-both, and-same}
@@ -26,6 +25,12 @@ use Rattle.check_order.specs.Permuted.{sum-first}
 use Rattle.check_order.specs.Reordered.{other}
 use Rattle.check_order.specs.Parts.{apart, each-missing, each-listed, pick-parts, no-lines, no-pairs, no-mass}
 use Rattle.check_order.specs.Kinds.{kind-found, kind-of-same, known-same}
+use Rattle.lists.specs.Below.{allBelow}
+use Rattle.check_words.specs.Words.{onlyIf}
+use Rattle.check_list.specs.Finding.{lostWords, wrongWords}
+use Rattle.check_list.specs.View.{lostFound, wrongFound}
+use Rattle.check_packing.specs.Findings.{findings, missing, wronglyListed}
+use Rattle.lists.specs.Below.{isAt}
 
 -- ---- what is picked
 
@@ -55,7 +60,8 @@ isPlaced s k n instance = anyBelow (λ i. isCopy s k instance (lineAt s i)) n
 
 module _ (s : Sheet) (k : ℕ) where
   -- two lines that name one copy, the second of them of kind k
-  same-copy : (l m : Line) → known s l ≡ true → eqb (kindOf s (l .id)) k ≡ true → (eqb (m .id) (l .id) && eqb (m .instance) (l .instance)) ≡ isCopy s k (l .instance) m
+  same-copy : (l m : Line) → known s l ≡ true → eqb (kindOf s (l .id)) k ≡ true
+      → (eqb (m .id) (l .id) && eqb (m .instance) (l .instance)) ≡ isCopy s k (l .instance) m
   unfolding isCopy known
   same-copy l m h e =
       ap (λ (v : Bool). v && eqb (m .instance) (l .instance))
@@ -69,7 +75,8 @@ module _ (s : Sheet) (k : ℕ) where
       back g =
           eq-eqb (m .id) (l .id)
           (sym (kind-found (s .kinds) (m .id) (s .many .kinds) (and-left (isKnown s (m .id)) (eqb (kindOf s (m .id)) k) g))
-          ∙ ap (λ (v : ℕ). kindAt s v .id) (eqb-true (kindOf s (m .id)) k (and-right (isKnown s (m .id)) (eqb (kindOf s (m .id)) k) g) ∙ sym (eqb-true (kindOf s (l .id)) k e))
+          ∙ ap (λ (v : ℕ). kindAt s v .id)
+          (eqb-true (kindOf s (m .id)) k (and-right (isKnown s (m .id)) (eqb (kindOf s (m .id)) k) g) ∙ sym (eqb-true (kindOf s (l .id)) k e))
           ∙ kind-found (s .kinds) (l .id) (s .many .kinds) h)
 
   again-placed : (n : ℕ) → known s (lineAt s n) ≡ true → eqb (kindOf s (lineAt s n .id)) k ≡ true → again (s .lines) n ≡ isPlaced s k n (lineAt s n .instance)
@@ -89,8 +96,10 @@ module _ (s : Sheet) (k : ℕ) where
       gone true false = refl
       gone false a = refl
 
-      go : (b e a r : Bool) → (b ≡ true → e ≡ true → a ≡ isPlaced s k n (lineAt s n .instance)) → (b ≡ true → e ≡ true → r ≡ ltb (lineAt s n .instance) (kindAt s k .quantity))
-          → sumBelow (λ m. when ((b && (e && eqb (lineAt s n .instance) m)) && not (isPlaced s k n m)) 1) (kindAt s k .quantity) ≡ when ((b && r) && (not a && e)) 1
+      go : (b e a r : Bool) → (b ≡ true → e ≡ true → a ≡ isPlaced s k n (lineAt s n .instance))
+          → (b ≡ true → e ≡ true → r ≡ ltb (lineAt s n .instance) (kindAt s k .quantity))
+          → sumBelow (λ m. when ((b && (e && eqb (lineAt s n .instance) m)) && not (isPlaced s k n m)) 1) (kindAt s k .quantity) ≡ when
+          ((b && r) && (not a && e)) 1
       go true true a r f g =
           count-one (λ m. not (isPlaced s k n m)) (lineAt s n .instance) (kindAt s k .quantity)
           ∙ ap (λ (v : Bool). when (v && not (isPlaced s k n (lineAt s n .instance))) 1) (sym (g refl refl))
@@ -112,7 +121,8 @@ module _ (s : Sheet) (k : ℕ) where
       ap (λ (v : ℕ). v + packs s k n) before
       ∙ ap (λ (v : ℕ). sumBelow (λ m. when (isPlaced s k n m) 1) q + v) (sym (newly n))
       ∙ sym (sum-both (λ m. when (isPlaced s k n m) 1) (λ m. when (isCopy s k m (lineAt s n) && not (isPlaced s k n m)) 1) q)
-      ∙ sum-same (λ m. when (isPlaced s k n m) 1 + when (isCopy s k m (lineAt s n) && not (isPlaced s k n m)) 1) (λ m. when (isPlaced s k n m || isCopy s k m (lineAt s n)) 1) q
+      ∙ sum-same (λ m. when (isPlaced s k n m) 1 + when (isCopy s k m (lineAt s n) && not (isPlaced s k n m)) 1)
+      (λ m. when (isPlaced s k n m || isCopy s k m (lineAt s n)) 1) q
       (λ m l. sym (one-more (isPlaced s k n m) (isCopy s k m (lineAt s n))))
 
   packed-below : (n : ℕ) → sumBelow (packs s k) n ≡ sumBelow (λ m. when (isPlaced s k n m) 1) (kindAt s k .quantity)
@@ -135,7 +145,8 @@ module _ (s : Sheet) (ks : List Kind) (ls : List Line) (us : List ℕ)
   unfolding isCopy
   copy-same k m l =
       let t = other s ks ls us in
-      and-same (known s l) (known t l) (eqb (kindOf s (l .id)) k && eqb (l .instance) m) (eqb (kindOf t (l .id)) k && eqb (l .instance) m) (known-same s ks ls us same-kinds l)
+      and-same (known s l) (known t l) (eqb (kindOf s (l .id)) k && eqb (l .instance) m) (eqb (kindOf t (l .id)) k && eqb (l .instance) m)
+      (known-same s ks ls us same-kinds l)
       (λ e. ap (λ (v : ℕ). eqb v k && eqb (l .instance) m) (kind-of-same s ks ls us same-kinds (l .id)))
 
   placed-same : (k m : ℕ) → isPlaced s k (s .many .lines) m ≡ isPlaced (other s ks ls us) k (s .many .lines) m
@@ -151,40 +162,44 @@ module _ (s : Sheet) (ks : List Kind) (ls : List Line) (us : List ℕ)
   packed-same k h =
       let t = other s ks ls us in
       packed-distinct s k
-      ∙ sum-same (λ m. when (isPlaced s k (s .many .lines) m) 1) (λ m. when (isPlaced t k (s .many .lines) m) 1) (kindAt s k .quantity) (λ m l. ap (λ (v : Bool). when v 1) (placed-same k m))
+      ∙ sum-same (λ m. when (isPlaced s k (s .many .lines) m) 1) (λ m. when (isPlaced t k (s .many .lines) m) 1) (kindAt s k .quantity)
+      (λ m l. ap (λ (v : Bool). when v 1) (placed-same k m))
       ∙ ap (λ (v : Kind). sumBelow (λ m. when (isPlaced t k (s .many .lines) m) 1) (v .quantity)) (same-kinds k h)
       ∙ sym (packed-distinct t k)
 
   short-same : (k : ℕ) → k < s .many .kinds → short s k ≡ short (other s ks ls us) k
   unfolding short
-  short-same k h = ap (λ (v : ℕ). ltb v (kindAt s k .quantity)) (packed-same k h) ∙ ap (λ (v : Kind). ltb (packed (other s ks ls us) k) (v .quantity)) (same-kinds k h)
+  short-same k h = ap (λ (v : ℕ). ltb v (kindAt s k .quantity)) (packed-same k h) ∙ ap (λ (v : Kind). ltb (packed (other s ks ls us) k) (v .quantity))
+      (same-kinds k h)
 
-  listed-same : (id n : ℕ) → ((i : ℕ) → i < n → i < s .many .unplaced) → anyBelow (isListed (s .unplaced) id) n ≡ anyBelow (isListed us id) n
-  unfolding isListed
-  listed-same id n h = any-same (isListed (s .unplaced) id) (isListed us id) n (λ i l. ap (λ (v : ℕ). eqb v id) (same-unplaced i (h i l)))
+  listed-same : (id n : ℕ) → ((i : ℕ) → i < n → i < s .many .unplaced) → anyBelow (isAt (s .unplaced) id) n ≡ anyBelow (isAt us id) n
+  unfolding isAt
+  listed-same id n h = any-same (isAt (s .unplaced) id) (isAt us id) n (λ i l. ap (λ (v : ℕ). eqb v id) (same-unplaced i (h i l)))
 
   missing-same : (k : ℕ) → k < s .many .kinds → missing s k ≡ missing (other s ks ls us) k
-  unfolding missing lostWords
+  unfolding lostFound lostWords
   missing-same k h =
       let t = other s ks ls us in
       let words : Bool → Bool → ℕ → List ℕ = λ a b id. onlyIf (a && not b) (10 ∷ id ∷ 0 ∷ 0 ∷ 0 ∷ []) in
-      let listed : List ℕ → ℕ → Bool = λ ids id. anyBelow (isListed ids id) (s .many .unplaced) in
+      let listed : List ℕ → ℕ → Bool = λ ids id. anyBelow (isAt ids id) (s .many .unplaced) in
       ap (λ (v : Bool). words v (listed (s .unplaced) (kindAt s k .id)) (kindAt s k .id)) (short-same k h)
       ∙ ap (λ (v : Bool). words (short t k) v (kindAt s k .id)) (listed-same (kindAt s k .id) (s .many .unplaced) (λ i l. l))
       ∙ ap (λ (v : Kind). words (short t k) (listed us (v .id)) (v .id)) (same-kinds k h)
 
   wrong-same : (i : ℕ) → i < s .many .unplaced → wronglyListed s i ≡ wronglyListed (other s ks ls us) i
-  unfolding wronglyListed wrongWords
+  unfolding wrongFound wrongWords
   wrong-same i h =
       let t = other s ks ls us in
       let id = unplacedAt s i in
       ap (λ (v : Bool). onlyIf v (11 ∷ id ∷ 0 ∷ 0 ∷ 0 ∷ []))
-      (wrong (isKnown s id) (isKnown t id) (short s (kindOf s id)) (short t (kindOf t id)) (anyBelow (isListed (s .unplaced) id) i) (ap (λ (v : ℕ). ltb v (s .many .kinds)) (kind-of-same s ks ls us same-kinds id)) (short-known id))
+      (wrong (isKnown s id) (isKnown t id) (short s (kindOf s id)) (short t (kindOf t id)) (anyBelow (isAt (s .unplaced) id) i)
+      (ap (λ (v : ℕ). ltb v (s .many .kinds)) (kind-of-same s ks ls us same-kinds id)) (short-known id))
       ∙ ap (λ (v : Bool). onlyIf (not (isKnown t id) || (not (short t (kindOf t id)) || v)) (11 ∷ id ∷ 0 ∷ 0 ∷ 0 ∷ [])) (listed-same id i (λ j l. omega arith))
-      ∙ ap (λ (v : ℕ). onlyIf (not (isKnown t v) || (not (short t (kindOf t v)) || anyBelow (isListed us v) i)) (11 ∷ v ∷ 0 ∷ 0 ∷ 0 ∷ [])) (same-unplaced i h)
+      ∙ ap (λ (v : ℕ). onlyIf (not (isKnown t v) || (not (short t (kindOf t v)) || anyBelow (isAt us v) i)) (11 ∷ v ∷ 0 ∷ 0 ∷ 0 ∷ [])) (same-unplaced i h)
     where
       short-known : (id : ℕ) → isKnown s id ≡ true → short s (kindOf s id) ≡ short (other s ks ls us) (kindOf (other s ks ls us) id)
-      short-known id e = short-same (kindOf s id) (ltb-true (kindOf s id) (s .many .kinds) e) ∙ ap (short (other s ks ls us)) (kind-of-same s ks ls us same-kinds id)
+      short-known id e = short-same (kindOf s id) (ltb-true (kindOf s id) (s .many .kinds) e) ∙ ap (short (other s ks ls us))
+          (kind-of-same s ks ls us same-kinds id)
 
       wrong : (b c r u v : Bool) → b ≡ c → (b ≡ true → r ≡ u) → (not b || (not r || v)) ≡ (not c || (not u || v))
       wrong true c r u v e f = ap (λ (w : Bool). not w || v) (f refl) ∙ ap (λ (w : Bool). not w || (not u || v)) e

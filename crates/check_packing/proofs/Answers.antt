@@ -1,8 +1,8 @@
--- The four answers of `check_packing`: a refused sheet, no findings, no room, and the findings listed.
+-- The answers of `check_packing`: no findings, no room, the findings listed; and a refused file.
 use mathlib.Core.Path.{_≡_, refl, ap, _∙_}
 use mathlib.Core.Bool.{false, true}
 use mathlib.Core.List.{List, [], _∷_, _++_}
-use Prim.Native.Nat.{ℕ, zero, suc, _+_, _/_, _<_, _≤_}
+use Prim.Native.Nat.{ℕ, suc, _+_, _/_, _<_, _≤_}
 use native.Mathlib.Nat.{zero-add}
 use native.Mathlib.Omega.{arith}
 use borrow.Author.Tests.{lt-ltb, le-ltb, ne-eqb}
@@ -15,14 +15,10 @@ use Rattle.sheet.specs.Sheets.{sheetRefusal}
 use Rattle.check_packing.specs.declared.Checked.{Checked}
 use Rattle.check_words.specs.Wrote.{Wrote}
 use Rattle.check_packing.specs.Findings.{findings}
-use Rattle.check_packing.specs.Check.{checkRefusal, countOf, checkedOf, cellsOf}
+use Rattle.file_read.specs.Reading.{sheetOf, refusalOf}
+use Rattle.check_packing.specs.Check.{checkRefusal, countOf, checkedOf, cellsOf, fileChecked, fileCells, CheckedFile}
 
 module _ (s : Sheet) (o : List ℕ) where
-  pub answer-refused : (r : ℕ) → r ≡ sheetRefusal s → (r ≡ 0 → ⊥) → (record { refused = r; count = 0 } ≡ checkedOf s o) × (o ≡ cellsOf s o)
-  unfolding checkedOf cellsOf checkRefusal countOf orElse
-  answer-refused zero e n = absurd (n refl)
-  answer-refused (suc r) e n = rw (← e, ne-eqb (suc r) 0 n) (refl, refl)
-
   pub answer-none : {x x′ : List ℕ} {n : ℕ} → sheetRefusal s ≡ 0 → Wrote x 0 (findings s) n x′ → n ≡ 0
       → (record { refused = 0; count = 0 } ≡ checkedOf s o) × (o ≡ cellsOf s o)
   unfolding checkedOf cellsOf checkRefusal countOf orElse
@@ -45,3 +41,13 @@ module _ (s : Sheet) (o : List ℕ) where
   answer-listed {x} {x′} {o′} {n} {r} e w h v =
       let k : n ≡ length (findings s) = omega (arith, w .next) in
       rw (e, le-ltb (length o) (length (findings s)) (omega arith), k) (refl, v .cells ∙ sets-eq (findings s) o 0 (omega arith) ∙ rw zero-add)
+
+-- ---- of a file
+
+pub file-refused : (f o : List ℕ) (r : ℕ) → refusalOf f ≡ r → (r ≡ 0 → ⊥) → CheckedFile f o (record { refused = r; count = 0 }) o
+unfolding fileChecked fileCells
+file-refused f o r e n = record { told = rw (e, ne-eqb r 0 n); cells = rw (e, ne-eqb r 0 n) }
+
+pub file-checked : {f o o′ : List ℕ} {r : Checked} → refusalOf f ≡ 0 → (r ≡ checkedOf (sheetOf f) o) × (o′ ≡ cellsOf (sheetOf f) o) → CheckedFile f o r o′
+unfolding fileChecked fileCells
+file-checked e h = record { told = rw e (h .0); cells = rw e (h .1) }

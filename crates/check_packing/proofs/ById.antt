@@ -15,7 +15,10 @@ use Rattle.sheet.specs.declared.Sheet.{Sheet}
 use Rattle.sheet.specs.Sheets.{noKind, kindAt, sameId}
 use Rattle.sheet.specs.Accepted.{Accepted}
 use Rattle.check_packing.specs.Lines.{kindBelow, kindOf}
-use Rattle.check_packing.specs.Tables.{later}
+
+-- the first place, with place k looked at too
+abbrev later : ℕ → ℕ → Bool → ℕ
+later r k hit = cond (ltb r k) r (cond hit k (suc k))
 
 -- ---- one step
 

@@ -1,4 +1,4 @@
--- 01's "distinct instances in range placed" are what check.rs counts: the lines in range that are the first of their copy.
+-- The distinct copies in range that are placed, as the unplaced list counts them, are the lines in range that are the first of their copy.
 use mathlib.Core.Path.{_≡_, refl, sym, ap, _∙_}
 use mathlib.Core.Bool.{Bool, true, false, not, _&&_}
 use mathlib.Core.List.{List}
@@ -10,7 +10,7 @@ use lib.ListN.{getD}
 use Rattle.domain.specs.Bounds.{mostLines}
 use Rattle.lists.specs.Below.{anyBelow, sumBelow}
 use Rattle.domain.specs.Refusals.{when}
-use Rattle.lists.specs.Bools.{and-left, and-right}
+use Rattle.lists.specs.Bools.{and-left, and-right, same-bool}
 use Rattle.sheet.specs.declared.Sheet.{Sheet}
 use Rattle.sheet.specs.declared.Line.{Line}
 use Rattle.sheet.specs.Sheets.{kindAt, lineAt, noLine}
@@ -20,12 +20,6 @@ use Rattle.plan_unplaced.specs.Short.{places, isPlaced, distinctPlaced, Named, 
 use Rattle.plan_unplaced.specs.Distinct.{distinct-none, distinct-hit, distinct-miss}
 use Rattle.check_packing.specs.Lines.{kindOf, isKnown, known, kindFor, sameAs, again, counted, packs, packed}
 use Rattle.check_packing.proofs.ById.{kind-hit, own-kind}
-
--- two tests that pass together are equal
-both-ways : (p q : Bool) → (p ≡ true → q ≡ true) → (q ≡ true → p ≡ true) → p ≡ q
-both-ways true q f g = sym (f refl)
-both-ways false true f g = g refl
-both-ways false false f g = refl
 
 -- a count of lines, one of which is of this kind and in range: a is whether an earlier line names its copy
 adds : (d e : ℕ) (a : Bool) → d + when a 1 ≡ e + 1 → d ≡ e + when (not a) 1
@@ -50,10 +44,10 @@ module _ (s : Sheet) (a : Accepted s) (k : ℕ) (l : k < s .many .kinds) where
   q = kindAt s k .quantity
 
   -- a line's kind is k exactly where it has k's id
-  of-kind : (line : Line) → (counted s line && eqb (kindOf s (line .id)) k) ≡ (eqb (line .id) id && ltb (line .instance) q)
+  pub of-kind : (line : Line) → (counted s line && eqb (kindOf s (line .id)) k) ≡ (eqb (line .id) id && ltb (line .instance) q)
   unfolding counted known kindFor
   of-kind line =
-      both-ways (counted s line && eqb (kindOf s (line .id)) k) (eqb (line .id) id && ltb (line .instance) q) there back
+      same-bool (counted s line && eqb (kindOf s (line .id)) k) (eqb (line .id) id && ltb (line .instance) q) there back
     where
       there : (counted s line && eqb (kindOf s (line .id)) k) ≡ true → (eqb (line .id) id && ltb (line .instance) q) ≡ true
       there h =
@@ -91,7 +85,8 @@ module _ (s : Sheet) (a : Accepted s) (k : ℕ) (l : k < s .many .kinds) where
   unfolding packs
   packs-is n =
       ap (λ (b : Bool). when b 1)
-      (and-moved (counted s (lineAt s n)) (not (again (s .lines) n)) (eqb (kindOf s (lineAt s n .id)) k) ∙ ap (λ (b : Bool). b && not (again (s .lines) n)) (of-kind (lineAt s n)))
+      (and-moved (counted s (lineAt s n)) (not (again (s .lines) n)) (eqb (kindOf s (lineAt s n .id)) k) ∙ ap (λ (b : Bool). b && not (again (s .lines) n))
+      (of-kind (lineAt s n)))
 
   step : (n : ℕ) → n < mostLines → distinctPlaced ids instances (suc n) id q ≡ distinctPlaced ids instances n id q + packs s k n
   step n z = rw (packs-is n) (go (eqb (lineAt s n .id) id && ltb (lineAt s n .instance) q) refl (named (s .lines) mostLines n (omega arith) z))

@@ -1,4 +1,5 @@
--- What `check_packing` answers, and what its lent cells hold afterwards.
+-- What `check_packing` answers, and what its lent cells hold afterwards. RULES: Refusals, Lent memory
+use mathlib.Core.Path.{_≡_}
 use Prim.Native.Nat.{ℕ, _/_}
 use mathlib.Core.Bool.{cond}
 use mathlib.Core.List.{List, _++_}
@@ -7,10 +8,11 @@ use lib.ListN.{length, drop}
 use Rattle.domain.specs.Refusals.{when, orElse}
 use Rattle.sheet.specs.declared.Sheet.{Sheet}
 use Rattle.sheet.specs.Sheets.{sheetRefusal}
+use Rattle.file_read.specs.Reading.{sheetOf, refusalOf}
 use Rattle.check_packing.specs.declared.Checked.{Checked}
 use Rattle.check_packing.specs.Findings.{findings}
 
--- 01, number 6: "the lent slots are fewer than the results; the number needed is returned". A slot is five cells; `o` is what is lent.
+-- 6 where fewer slots of five cells are lent than there are findings; `o` is what is lent
 unfoldable pub checkRefusal : Sheet → List ℕ → ℕ
 checkRefusal s o = orElse (sheetRefusal s) (when (ltb (length o) (length (findings s))) 6)
 
@@ -21,7 +23,19 @@ countOf s = cond (eqb (sheetRefusal s) 0) (length (findings s) / 5) 0
 unfoldable pub checkedOf : Sheet → List ℕ → Checked
 checkedOf s o = record { refused = checkRefusal s o; count = countOf s }
 
--- 01: "A refusal returns its number (6 also its count), and no lent cell or state differs afterwards.
--- After an accepted call, lent cells past its results hold their old values."
+-- the findings, and behind them what the cells held; after a refusal no cell differs
 unfoldable pub cellsOf : Sheet → List ℕ → List ℕ
 cellsOf s o = cond (eqb (checkRefusal s o) 0) (findings s ++ drop (length (findings s)) o) o
+
+-- ---- of a load file: its own refusal, or the answer for the sheet that it says
+
+unfoldable pub fileChecked : List ℕ → List ℕ → Checked
+fileChecked f o = cond (eqb (refusalOf f) 0) (checkedOf (sheetOf f) o) (record { refused = refusalOf f; count = 0 })
+
+unfoldable pub fileCells : List ℕ → List ℕ → List ℕ
+fileCells f o = cond (eqb (refusalOf f) 0) (cellsOf (sheetOf f) o) o
+
+-- the answer r of a call on the bytes f, and its lent cells o and o′ before and after
+pub record CheckedFile (f o : List ℕ) (r : Checked) (o′ : List ℕ) : Type 0 where
+  pub told : r ≡ fileChecked f o
+  pub cells : o′ ≡ fileCells f o

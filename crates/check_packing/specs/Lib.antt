@@ -1,7 +1,5 @@
--- The findings on a load sheet, and what a call that lists them answers.
-pub mod Words
+-- The findings on a load sheet, what a call that lists them answers, and the columns that it works on.
 pub mod Lines
 pub mod Findings
 pub mod Check
-pub mod Tables
-pub mod Tabled
+pub mod Columns

@@ -1,4 +1,5 @@
--- What the checker reads off a sheet's lines: the kind that a line names, the box that it places, which lines repeat one, and how many copies are packed.
+-- What the checker reads off a sheet's lines: the kind that a line names, which lines repeat one, and how many copies are packed.
+-- RULES: Findings: lines, Findings: unplaced
 use Prim.Native.Nat.{ℕ, zero, suc}
 use mathlib.Core.Bool.{Bool, not, _&&_, cond}
 use mathlib.Core.List.{List}
@@ -9,15 +10,15 @@ use Rattle.floats.specs.Ops.{_⊕_, none}
 use Rattle.lists.specs.Below.{anyBelow, sumBelow}
 use Rattle.domain.specs.Refusals.{when}
 use Rattle.measures.specs.declared.Kind.{Kind}
+use Rattle.measures.specs.Asked.{hasMass}
 use Rattle.sheet.specs.declared.Line.{Line}
 use Rattle.sheet.specs.declared.Sheet.{Sheet}
 use Rattle.sheet.specs.Sheets.{noKind, noLine, kindAt, lineAt}
 use Rattle.check_pair.specs.Tolerance.{toleranceOf}
 pub use Rattle.check_words.specs.Boxes.{boxOf}
 pub use Rattle.check_list.specs.Finding.{inRange}
-unfoldable pub use Rattle.check_list.specs.Finding.{isListed}
 
--- ---- kinds by id (check.rs: `by_id`)
+-- ---- kinds by id
 
 -- the first of n kinds that has this id, or n where none has
 unfoldable pub kindBelow : List Kind → ℕ → ℕ → ℕ
@@ -31,7 +32,7 @@ kindOf s id = kindBelow (s .kinds) id (s .many .kinds)
 abbrev pub isKnown : Sheet → ℕ → Bool
 isKnown s id = ltb (kindOf s id) (s .many .kinds)
 
--- 01: "lines of known kinds"
+-- a line of a known kind
 unfoldable pub known : Sheet → Line → Bool
 known s l = isKnown s (l .id)
 
@@ -39,7 +40,7 @@ known s l = isKnown s (l .id)
 unfoldable pub kindFor : Sheet → Line → Kind
 kindFor s l = kindAt s (kindOf s (l .id))
 
--- ---- instances (check.rs: `seen` and `packed`)
+-- ---- copies
 
 -- two lines name the same copy
 abbrev pub sameBox : Line → Line → Bool
@@ -53,16 +54,15 @@ sameAs lines i j = sameBox (getD lines j noLine) (getD lines i noLine)
 unfoldable pub again : List Line → ℕ → Bool
 again lines i = anyBelow (sameAs lines i) i
 
--- of a known kind and in range
+-- of a known kind, and a copy that it has
 unfoldable pub counted : Sheet → Line → Bool
 counted s l = known s l && inRange l (kindFor s l)
 
--- 01: "else instance out of range or else repeated"
--- check.rs: `p.instance >= geom.quantity()`, else `!seen.insert((id, p.instance))`
+-- such a line whose copy an earlier one names: a line out of range is never called repeated
 abbrev pub repeats : Sheet → ℕ → Bool
 repeats s i = counted s (lineAt s i) && again (s .lines) i
 
--- check.rs: else `*packed.entry(id).or_default() += 1`, here for kind k
+-- such a line that is the first of its copy, for kind k
 unfoldable pub packs : Sheet → ℕ → ℕ → ℕ
 packs s k i = when (counted s (lineAt s i) && (not (again (s .lines) i) && eqb (kindOf s (lineAt s i .id)) k)) 1
 
@@ -74,21 +74,23 @@ packed s k = sumBelow (packs s k) (s .many .lines)
 unfoldable pub short : Sheet → ℕ → Bool
 short s k = ltb (packed s k) (kindAt s k .quantity)
 
--- the tolerance T
+-- ---- the tolerance, and the mass. RULES: Tolerance, Findings: mass
+
 abbrev pub tolerance : Sheet → Float
 tolerance s = toleranceOf (s .container .size)
 
--- ---- mass
-
--- check.rs: `geom.mass().unwrap_or(0.0)`
+-- a kind without a mass adds 0
 abbrev pub massOf : Kind → Float
-massOf k = cond (eqb (k .massed) 0) none (k .mass)
+massOf k = cond (hasMass (k .massed)) (k .mass) none
 
--- 01: "unknown kind (nothing further, no mass); .. mass added"; the sum over the first n lines
--- check.rs: `mass += geom.mass().unwrap_or(0.0)`
+-- the mass with one line more, of this kind where it is known
+abbrev pub massWith : Float → Bool → Kind → Float
+massWith sum known k = cond known (sum ⊕ massOf k) sum
+
+-- of the first n lines, in their order: a repeated line counts, an unknown one does not
 unfoldable pub massBelow : Sheet → ℕ → Float
 massBelow s zero = none
-massBelow s (suc n) = let l = lineAt s n in cond (known s l) (massBelow s n ⊕ massOf (kindFor s l)) (massBelow s n)
+massBelow s (suc n) = massWith (massBelow s n) (known s (lineAt s n)) (kindFor s (lineAt s n))
 
 -- of all lines
 abbrev pub mass : Sheet → Float

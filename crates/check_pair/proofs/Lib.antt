@@ -1,4 +1,5 @@
 -- What the proofs of this crate share, and the laws of the verdict.
 pub mod Shortcut
 pub mod Verdicts
+pub mod FarApart
 pub mod Examples

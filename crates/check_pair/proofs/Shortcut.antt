@@ -1,4 +1,4 @@
--- Where `clear` holds, the distance is not below what is asked: a root is never below zero, and it is never below one gap alone.
+-- Where `farEnough` holds, the distance is not below what is asked: a root is never below zero, and it is never below one gap alone.
 use mathlib.Core.Path.{_≡_, refl, sym, ap, _∙_, subst}
 use mathlib.Core.Bool.{Bool, true, false, not, _&&_, _||_, cond, true≢false}
 use mathlib.Core.List.{List}
@@ -18,7 +18,7 @@ use Rattle.check_root.specs.Sqrt.{sqrtOf}
 use Rattle.check_root.proofs.Order.{sqrt-signed, sqrt-mono, root-of-positive}
 use Rattle.check_root.proofs.OfSquare.{sqrt-square, pattern-positive}
 use Rattle.check_pair.specs.Pair.{squared, distanceOf}
-use Rattle.check_pair.specs.Shortcut.{plain, clear}
+use Rattle.check_pair.specs.Shortcut.{plain, farEnough}
 
 -- ---- squares of gaps are not negative
 
@@ -135,7 +135,8 @@ module _ (u v w : Float) where
         ]
       ]
 
-  far : (asked : Float) → T (fits binary64 asked) → T (le asked none || (plain asked && (le asked u || (le asked v || le asked w)))) → T (le asked (sqrtOf binary64 all))
+  far : (asked : Float) → T (fits binary64 asked) → T (le asked none || (plain asked && (le asked u || (le asked v || le asked w))))
+      → T (le asked (sqrtOf binary64 all))
   far asked F h =
       elim (or-split (le asked none) (plain asked && (le asked u || (le asked v || le asked w))) h) [
         | inl k ↦ le-chain asked none (sqrtOf binary64 all) k (none-le (sqrtOf binary64 all) (sqrt-signed binary64 all all-signed))
@@ -144,6 +145,6 @@ module _ (u v w : Float) where
 
 -- ---- the law
 
-pub clear-far : (g : List Float) (asked : Float) → T (fits binary64 asked) → clear g asked ≡ true → lt (distanceOf g) asked ≡ false
+pub far-enough : (g : List Float) (asked : Float) → T (fits binary64 asked) → farEnough g asked ≡ true → lt (distanceOf g) asked ≡ false
 unfolding distanceOf
-clear-far g asked F h = not-below (distanceOf g) asked (sqrt-signed binary64 _ (all-signed (x g) (y g) (z g))) (far (x g) (y g) (z g) asked F (subst T (sym h) tt))
+far-enough g asked F h = not-below (distanceOf g) asked (sqrt-signed binary64 _ (all-signed (x g) (y g) (z g))) (far (x g) (y g) (z g) asked F (subst T (sym h) tt))

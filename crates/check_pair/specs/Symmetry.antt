@@ -50,10 +50,10 @@ distance-alike g h i j k = rw (alike-squared (x g) (x h) i, alike-squared (y g) 
 overlaps-alike : (g h : List Float) (t : Float) → Alike (x g) (x h) → Alike (y g) (y h) → Alike (z g) (z h) → overlaps g t ≡ overlaps h t
 overlaps-alike g h t i j k = rw (alike-lt (x g) (x h) (neg t) i, alike-lt (y g) (y h) (neg t) j, alike-lt (z g) (z h) (neg t) k)
 
-verdict-alike : (g h : List Float) (spacing t : Float) → Alike (x g) (x h) → Alike (y g) (y h) → Alike (z g) (z h) → verdictAt g spacing t ≡ verdictAt h spacing t
+verdict-alike : (g h : List Float) (asked t : Float) → Alike (x g) (x h) → Alike (y g) (y h) → Alike (z g) (z h) → verdictAt g asked t ≡ verdictAt h asked t
 unfolding verdictAt
-verdict-alike g h spacing t i j k = rw (overlaps-alike g h t i j k, distance-alike g h i j k)
+verdict-alike g h asked t i j k = rw (overlaps-alike g h t i j k, distance-alike g h i j k)
 
-pub verdict-turned : (a b : Extent) (spacing t : Float) → Solid a → Solid b → verdictOf a b spacing t ≡ verdictOf b a spacing t
-verdict-turned a b spacing t A B =
-    verdict-alike (gaps a b) (gaps b a) spacing t (gap-alike a b A B 0 (lit< tt)) (gap-alike a b A B 1 (lit< tt)) (gap-alike a b A B 2 (lit< tt))
+pub verdict-turned : (a b : Extent) (asked t : Float) → Solid a → Solid b → verdictOf a b asked t ≡ verdictOf b a asked t
+verdict-turned a b asked t A B =
+    verdict-alike (gaps a b) (gaps b a) asked t (gap-alike a b A B 0 (lit< tt)) (gap-alike a b A B 1 (lit< tt)) (gap-alike a b A B 2 (lit< tt))

@@ -1,9 +1,9 @@
-// The verdict on one pair of boxes, and the checker's tolerance (check.rs).
+// The verdict on one pair of boxes, and the checker's tolerance. RULES: Tolerance, Findings: pairs
 ghost use mathlib.Core.Path.{_≡_};
 ghost use Prim.Native.Nat.{_<_};
 ghost use Rattle.check_pair.specs.Tolerance.{magnitude, toleranceOf};
 ghost use Rattle.check_pair.specs.Pair.{gap, gaps, overlaps, squared, distanceOf, verdictOf};
-ghost use Rattle.check_pair.specs.Shortcut.{clear};
+ghost use Rattle.check_pair.specs.Shortcut.{plain, someGap, farEnough, limitOf};
 
 // Where a box lies: its near corner and its far corner.
 pub struct Extent {
@@ -16,8 +16,6 @@ pub enum Verdict {
     Overlap,
     TooClose(f64),
 }
-
-const SLACK: f64 = 0.000000001;
 
 // The number without its sign.
 fn magnitude(x: f64) -> f64
@@ -36,7 +34,7 @@ pub fn tolerance(size: [f64; 3]) -> f64
     let w = floats::larger(1.0, magnitude(size[0]));
     let d = floats::larger(w, magnitude(size[1]));
     let h = floats::larger(d, magnitude(size[2]));
-    SLACK * h + SLACK
+    domain::SLACK * h + domain::SLACK
 }
 
 // The gap between two boxes on an axis; below zero where they overlap on it.
@@ -77,30 +75,64 @@ fn distance(g: [f64; 3]) -> f64
     check_root::sqrt((squared(g[0]) + squared(g[1])) + squared(g[2]))
 }
 
-// Whether the boxes are seen to be far enough apart without a check_root: nothing is asked, or one gap alone is enough.
-fn clear(g: [f64; 3], asked: f64) -> bool
-    ensures { λ r. ⌜ r ≡ clear g asked ⌝ }
+// A number whose square neither overflows nor loses digits.
+fn plain(x: f64) -> bool
+    ensures { λ r. ⌜ r ≡ plain x ⌝ }
 {
-    let b = floats::bits_of(asked);
-    let plain = (2305843009213693952 <= b) & (b < 6913025428013711360);
-    (asked <= 0.0) | (plain & ((asked <= g[0]) | ((asked <= g[1]) | (asked <= g[2]))))
+    let b = floats::bits_of(x);
+    (2305843009213693952 <= b) & (b < 6913025428013711360)
 }
 
-// The verdict on two boxes that are to be `spacing` apart, with the tolerance t.
-pub fn judge(a: Extent, b: Extent, spacing: f64, t: f64) -> Verdict
-    ensures { λ r. ⌜ r ≡ verdictOf a b spacing t ⌝ }
+fn some_gap(least: f64, g: [f64; 3]) -> bool
+    ensures { λ r. ⌜ r ≡ someGap least g ⌝ }
+{
+    (least <= g[0]) | ((least <= g[1]) | (least <= g[2]))
+}
+
+// Whether the boxes are seen to be far enough apart without a root: nothing is asked, or one gap alone is enough.
+fn far_enough(g: [f64; 3], least: f64) -> bool
+    ensures { λ r. ⌜ r ≡ farEnough g least ⌝ }
+{
+    (least <= 0.0) | (plain(least) & some_gap(least, g))
+}
+
+// The verdict on two boxes that are to be `asked` apart, with the tolerance t.
+pub fn judge(a: Extent, b: Extent, asked: f64, t: f64) -> Verdict
+    ensures { λ r. ⌜ r ≡ verdictOf a b asked t ⌝ }
 {
     let g = gaps(a, b);
     if overlaps(g, t) {
         return Verdict::Overlap;
     }
-    let asked = spacing - t;
-    if clear(g, asked) {
+    let least = asked - t;
+    if far_enough(g, least) {
         return Verdict::Apart;
     }
     let d = distance(g);
-    if d < asked {
+    if d < least {
         return Verdict::TooClose(d);
     }
     Verdict::Apart
+}
+
+// From this gap on, on one axis, two boxes that are to be `asked` apart get no finding. Not a number, which no gap is at
+// least, where one gap alone does not tell.
+pub fn limit(asked: f64, t: f64) -> f64
+    ensures { λ r. ⌜ r ≡ limitOf asked t ⌝ }
+{
+    let least = asked - t;
+    if least <= 0.0 {
+        return -t;
+    }
+    if plain(least) & (-t <= least) {
+        return least;
+    }
+    0.0 / 0.0
+}
+
+// Whether one gap is at least the limit. No branch, so that a loop over many boxes is done a few at a time.
+pub fn is_far(a: Extent, b: Extent, limit: f64) -> bool
+    ensures { λ r. ⌜ r ≡ someGap limit (gaps a b) ⌝ }
+{
+    some_gap(limit, gaps(a, b))
 }

@@ -1,7 +1,9 @@
 -- The square root of a rounded square is the number again: sqrtOf (g * g) is g for a normal g above zero, where the square neither overflows nor underflows.
 use mathlib.Core.Path.{_≡_, sym, ap, _∙_, subst}
 use Prim.Native.Nat.{ℕ, zero, suc, _+_, _-_, _*_, _/_, _%_, _^_, _≤_, _<_, compare, Ordering, Ordering·lt, Ordering·eq, Ordering·gt}
-use native.Mathlib.Nat.{le-trans, le-of-eq, le-of-lt, lt-of-lt-of-le, lt-of-le-of-lt, lt-of-not-le, not-le-of-lt, mul-le-mul-left, mul-le-mul-right, mul-lt-mul-of-pos-right, mul-pos, mul-assoc, div-add-mod', mod-lt, le-div-iff-mul-le, div-lt-iff-lt-mul, lt-of-mul-lt-mul-right, pow-le-pow-right, zero-lt-suc}
+use native.Mathlib.Nat.{le-trans, le-of-eq, le-of-lt, lt-of-lt-of-le, lt-of-le-of-lt, lt-of-not-le, not-le-of-lt, mul-le-mul-left, mul-le-mul-right}
+use native.Mathlib.Nat.{mul-lt-mul-of-pos-right, mul-pos, mul-assoc, div-add-mod', mod-lt, le-div-iff-mul-le, div-lt-iff-lt-mul, lt-of-mul-lt-mul-right}
+use native.Mathlib.Nat.{pow-le-pow-right, zero-lt-suc}
 use native.Mathlib.Omega.{arith}
 use mathlib.Core.Bool.{true, false}
 use lib.Dec.{T}
@@ -56,7 +58,8 @@ module _ (a u : ℕ) (U : 0 < u) (normal : 2 ^ 52 * u ≤ a) where
 
   digits : size (a / u) ≡ 53 + cut
   unfolding cut
-  digits = subst (λ (x : ℕ). size (a / u) ≡ 53 + (size x - 53)) (sym quotient) (enough (size (a / u)) (exponent-lt 52 (size (a / u)) (lt-of-le-of-lt (le-div-iff-mul-le U .1 normal) (size-lt (a / u)))))
+  digits = subst (λ (x : ℕ). size (a / u) ≡ 53 + (size x - 53)) (sym quotient)
+      (enough (size (a / u)) (exponent-lt 52 (size (a / u)) (lt-of-le-of-lt (le-div-iff-mul-le U .1 normal) (size-lt (a / u)))))
     where
       enough : (s : ℕ) → 52 < s → s ≡ 53 + (s - 53)
       enough s h = omega arith
@@ -149,7 +152,8 @@ module _ (p c z : ℕ) (low : 2 ^ 52 ≤ p + 1) (high : p + 1 < 2 ^ 53) (normal 
   unfolding whole heavy
   exponents =
       exponent-lt (104 + (c + c)) (53 + (z + bits))
-      (lt-of-le-of-lt whole-from (lt-of-lt-of-le (weight-high whole (2 ^ z) (pow-pos z) normal) (le-of-eq (ap (λ (x : ℕ). 2 ^ 53 * x) heavy-is ∙ sym (pow-add 2 53 (z + bits))))))
+      (lt-of-le-of-lt whole-from (lt-of-lt-of-le (weight-high whole (2 ^ z) (pow-pos z) normal)
+      (le-of-eq (ap (λ (x : ℕ). 2 ^ 53 * x) heavy-is ∙ sym (pow-add 2 53 (z + bits))))))
 
   kept-from : 2 ^ 104 * 4 ^ c ≤ closest whole heavy * heavy
   unfolding whole heavy
@@ -199,7 +203,9 @@ module _ (p c z : ℕ) (low : 2 ^ 52 ≤ p + 1) (high : p + 1 < 2 ^ 53) (normal 
   unfolding whole
   c-from =
       exponent-lt (52 + z) (106 + (c + c))
-      (lt-of-le-of-lt (le-of-eq (pow-add 2 52 z)) (lt-of-le-of-lt normal (lt-of-lt-of-le (mul-lt-mul-of-pos-right (small p high) (pow4-pos c)) (le-of-eq (sym (pow-add 2 106 (c + c) ∙ ap (λ (x : ℕ). 2 ^ 106 * x) (pow-add 2 c c ∙ sym (four c))))))))
+      (lt-of-le-of-lt (le-of-eq (pow-add 2 52 z))
+      (lt-of-le-of-lt normal (lt-of-lt-of-le (mul-lt-mul-of-pos-right (small p high) (pow4-pos c))
+      (le-of-eq (sym (pow-add 2 106 (c + c) ∙ ap (λ (x : ℕ). 2 ^ 106 * x) (pow-add 2 c c ∙ sym (four c))))))))
     where
       small : (p : ℕ) → p + 1 < 2 ^ 53 → (p + 1) * (p + 1) < 2 ^ 106
       small p h = lt-of-le-of-lt (mul-le-mul-left (p + 1) (le-of-lt h)) (mul-lt-mul-of-pos-right h (pow-pos 53))
@@ -242,31 +248,39 @@ module _ (p c : ℕ) (low : 2 ^ 52 ≤ p + 1) (high : p + 1 < 2 ^ 53) (normal : 
       let w : ℕ = heavy p c 1074 low high normal in
       let b : ℕ = bits p c 1074 low high normal in
       let e : grid binary64 a (2 ^ 1074 * 2 ^ 1074) ≡ closest a w * 2 ^ b = grid-at p c 1074 low high normal in
-      let v = subst (λ (x : ℕ). HasValue rounded-square false x (2 ^ 1074)) e (round-val binary64 a (2 ^ 1074 * 2 ^ 1074) (subst (λ (x : ℕ). x < overflow binary64) (sym e) (fine l))) in
+      let v = subst (λ (x : ℕ). HasValue rounded-square false x (2 ^ 1074)) e
+      (round-val binary64 a (2 ^ 1074 * 2 ^ 1074) (subst (λ (x : ℕ). x < overflow binary64) (sym e) (fine l))) in
       let q : 0 < closest a w * 2 ^ b = lt-of-lt-of-le (pow-pos (52 + b)) (grid-from p c 1074 low high normal) in
       subst (λ (y : Float). HasValue y false ((p + 1) * 2 ^ c) (2 ^ 1074))
-      (sym (sqrt-of-value rounded-square (closest a w * 2 ^ b) (positive-of-value rounded-square (closest a w * 2 ^ b) (2 ^ 1074) v q) v ∙ ap (λ (x : ℕ). rounded binary64 x) (grid-weight p c 1074 low high normal)))
+      (sym (sqrt-of-value rounded-square (closest a w * 2 ^ b) (positive-of-value rounded-square (closest a w * 2 ^ b) (2 ^ 1074) v q) v ∙ ap
+      (λ (x : ℕ). rounded binary64 x) (grid-weight p c 1074 low high normal)))
       (rounded-value (closest a w * w) c p (lowest c (c-from p c 1074 low high normal)) l (less p high) (near-square p c 1074 low high normal))
     where
       less : (p : ℕ) → p + 1 < 2 ^ 53 → p < 2 ^ 53
       less p h = omega arith
 
-sqrt-square-at : (g : Float) (p c : ℕ) → T (fits binary64 g) → HasValue g false ((p + 1) * 2 ^ c) (2 ^ 1074) → 2 ^ 52 ≤ p + 1 → p + 1 < 2 ^ 53 → 511 ≤ c → c ≤ 1533
+sqrt-square-at : (g : Float) (p c : ℕ) → T (fits binary64 g) → HasValue g false ((p + 1) * 2 ^ c) (2 ^ 1074) → 2 ^ 52 ≤ p + 1 → p + 1 < 2 ^ 53 → 511 ≤ c
+    → c ≤ 1533
     → sqrtOf binary64 (mul binary64 g g) ≡ g
 unfolding rounded-square
 sqrt-square-at g p c f v low high from to =
     let k : ℕ = (p + 1) * 2 ^ c in
-    let normal : 2 ^ 52 * 2 ^ 1074 ≤ (p + 1) * (p + 1) * 4 ^ c = le-trans (mul-le-mul-left (2 ^ 104) (pow-le-pow-right {n = 4} (zero-lt-suc 3) {i = 511} {j = c} from)) (mul-le-mul-right (4 ^ c) (le-trans (mul-le-mul-left (2 ^ 52) low) (mul-le-mul-right (p + 1) low))) in
+    let normal : 2 ^ 52 * 2 ^ 1074 ≤ (p + 1) * (p + 1) * 4 ^ c = le-trans
+    (mul-le-mul-left (2 ^ 104) (pow-le-pow-right {n = 4} (zero-lt-suc 3) {i = 511} {j = c} from))
+    (mul-le-mul-right (4 ^ c) (le-trans (mul-le-mul-left (2 ^ 52) low) (mul-le-mul-right (p + 1) low))) in
     let P = positive-of-value g k (2 ^ 1074) v (mul-pos (lt-of-lt-of-le (pow-pos 52) low) (pow-pos c)) in
     let m : mul binary64 g g ≡ rounded-square p c low high normal =
-    mul-at binary64 g g k (2 ^ 1074) k (2 ^ 1074) P P (pow-pos 1074) (pow-pos 1074) v v ∙ ap (λ (x : ℕ). round binary64 false x (2 ^ 1074 * 2 ^ 1074)) (square-is (p + 1) c) in
+    mul-at binary64 g g k (2 ^ 1074) k (2 ^ 1074) P P (pow-pos 1074) (pow-pos 1074) v v ∙ ap (λ (x : ℕ). round binary64 false x (2 ^ 1074 * 2 ^ 1074))
+    (square-is (p + 1) c) in
     let h = back p c low high normal to in
-    ap (sqrtOf binary64) m ∙ same-value (sqrtOf binary64 (rounded-square p c low high normal)) g k (sqrt-keeps (rounded-square p c low high normal) (round-fits binary64 false ((p + 1) * (p + 1) * 4 ^ c) (2 ^ 1074 * 2 ^ 1074))) f h v
+    ap (sqrtOf binary64) m ∙ same-value (sqrtOf binary64 (rounded-square p c low high normal)) g k
+    (sqrt-keeps (rounded-square p c low high normal) (round-fits binary64 false ((p + 1) * (p + 1) * 4 ^ c) (2 ^ 1074 * 2 ^ 1074))) f h v
 
 -- ---- by the pattern: 512 * 2 ^ 52 is that of 2 ^ -511, and 1535 * 2 ^ 52 that of 2 ^ 512
 
 by-pattern : (g : Float) → T (fits binary64 g) → toBits binary64 g < 1535 * 2 ^ 52 → HasValue g false (mag (toBits binary64 g)) (2 ^ 1074)
-by-pattern g f h = subst (λ (v : Float). HasValue v false (mag (toBits binary64 g)) (2 ^ 1074)) (ofBits-toBits binary64 g f) (bits-value (toBits binary64 g) (under (toBits binary64 g) h))
+by-pattern g f h = subst (λ (v : Float). HasValue v false (mag (toBits binary64 g)) (2 ^ 1074)) (ofBits-toBits binary64 g f)
+    (bits-value (toBits binary64 g) (under (toBits binary64 g) h))
   where
     under : (b : ℕ) → b < 1535 * 2 ^ 52 → b < 2047 * 2 ^ 52
     under b h = omega arith
@@ -276,7 +290,8 @@ field-from b l = omega arith
 
 pub pattern-positive : (g : Float) → T (fits binary64 g) → 512 * 2 ^ 52 ≤ toBits binary64 g → toBits binary64 g < 1535 * 2 ^ 52 → T (positive g)
 unfolding mag
-pattern-positive g f l h = positive-of-value g (mag (toBits binary64 g)) (2 ^ 1074) (by-pattern g f h) (some (toBits binary64 g / 2 ^ 52) (toBits binary64 g % 2 ^ 52) (field-from (toBits binary64 g) l))
+pattern-positive g f l h = positive-of-value g (mag (toBits binary64 g)) (2 ^ 1074) (by-pattern g f h)
+    (some (toBits binary64 g / 2 ^ 52) (toBits binary64 g % 2 ^ 52) (field-from (toBits binary64 g) l))
   where
     some : (x t : ℕ) → 512 ≤ x → 0 < mant x t
     some zero t a = absurd (omega arith)
@@ -285,9 +300,11 @@ pattern-positive g f l h = positive-of-value g (mag (toBits binary64 g)) (2 ^ 10
         lead : (t : ℕ) → 0 < 2 ^ 52 + t
         lead t = omega arith
 
-pub sqrt-square : (g : Float) → T (fits binary64 g) → 512 * 2 ^ 52 ≤ toBits binary64 g → toBits binary64 g < 1535 * 2 ^ 52 → sqrtOf binary64 (mul binary64 g g) ≡ g
+pub sqrt-square : (g : Float) → T (fits binary64 g) → 512 * 2 ^ 52 ≤ toBits binary64 g → toBits binary64 g < 1535 * 2 ^ 52
+    → sqrtOf binary64 (mul binary64 g g) ≡ g
 unfolding mag
-sqrt-square g f l h = go (toBits binary64 g / 2 ^ 52) (toBits binary64 g % 2 ^ 52) (field-from (toBits binary64 g) l) (to (toBits binary64 g) h) (digits-lt (toBits binary64 g)) (by-pattern g f h)
+sqrt-square g f l h = go (toBits binary64 g / 2 ^ 52) (toBits binary64 g % 2 ^ 52) (field-from (toBits binary64 g) l) (to (toBits binary64 g) h)
+    (digits-lt (toBits binary64 g)) (by-pattern g f h)
   where
     to : (b : ℕ) → b < 1535 * 2 ^ 52 → b / 2 ^ 52 < 1535
     to b h = omega arith

@@ -1,7 +1,8 @@
 -- `sqrtOf` by the cases of `sqrt`'s tests.
 use mathlib.Core.Path.{_≡_, refl, sym, ap, _∙_, subst}
 use Prim.Native.Nat.{ℕ, zero, suc, _+_, _-_, _*_, _/_, _%_, _^_, _≤_, _<_}
-use native.Mathlib.Nat.{le-of-eq, lt-of-lt-of-le, not-le-of-lt, lt-irrefl, zero-lt-suc, zero-mul, mul-one, mul-pos, mul-assoc, mul-right-comm, mul-lt-mul-of-pos-right, mul-div-cancel, div-lt-iff-lt-mul, mod-eq-of-lt, eq-zero-or-pos}
+use native.Mathlib.Nat.{le-of-eq, lt-of-lt-of-le, not-le-of-lt, lt-irrefl, zero-lt-suc, zero-mul, mul-one, mul-pos, mul-assoc, mul-right-comm}
+use native.Mathlib.Nat.{mul-lt-mul-of-pos-right, mul-div-cancel, div-lt-iff-lt-mul, mod-eq-of-lt, eq-zero-or-pos}
 use native.Mathlib.Omega.{arith}
 use mathlib.Core.Bool.{Bool, true, false, _&&_, _||_, Bool·beq, cond}
 use lib.Dec.{T, leb, ltb, eqb, ltb→lt, eqb→eq, lt→ltb, not-T}
@@ -40,7 +41,8 @@ unfolding sqrtOf eq ofBits
 at-zero nan e = absurd (no refl (yes e))
 at-zero (inf s) e = absurd (no refl (yes e))
 at-zero (fin s zero d) e = refl
-at-zero (fin s (suc m) d) e = absurd (pos-zero m d (eqb→eq _ _ (and-l (eqb (suc m * up d * 1) (0 * down d)) (Bool·beq s false || eqb (suc m * up d * 1) 0) (yes e)) ∙ zero-mul (down d)))
+at-zero (fin s (suc m) d) e = absurd
+    (pos-zero m d (eqb→eq _ _ (and-l (eqb (suc m * up d * 1) (0 * down d)) (Bool·beq s false || eqb (suc m * up d * 1) 0) (yes e)) ∙ zero-mul (down d)))
 
 pub at-negative : (x : Float) → lt x z ≡ true → div binary64 z z ≡ sqrtOf binary64 x
 unfolding sqrtOf lt ofBits div
@@ -68,7 +70,9 @@ unfolding ne eq lt ofBits
 view nan a b c = absurd (no a tt)
 view (inf true) a b c = absurd (no c tt)
 view (inf false) a b c = infinite
-view (fin s zero e) a b c = absurd (no b (and-i (eqb (0 * up e * 1) (0 * down e)) (Bool·beq s false || eqb (0 * up e * 1) 0) (eq→eqb (same (up e) (down e))) (or-r (Bool·beq s false) (eqb (0 * up e * 1) 0) (eq→eqb (gone (up e))))))
+view (fin s zero e) a b c = absurd
+    (no b (and-i (eqb (0 * up e * 1) (0 * down e)) (Bool·beq s false || eqb (0 * up e * 1) 0) (eq→eqb (same (up e) (down e)))
+    (or-r (Bool·beq s false) (eqb (0 * up e * 1) 0) (eq→eqb (gone (up e))))))
   where
     same : (x y : ℕ) → 0 * x * 1 ≡ 0 * y
     same x y = omega arith
@@ -97,14 +101,17 @@ pattern-pos x f n =
 
 pub pattern-above : (m : ℕ) (e : ℤ) → T (fits binary64 (fin false (suc m) e)) → 0 < toBits binary64 (fin false (suc m) e)
 unfolding eq ofBits
-pattern-above m e f = pattern-pos (fin false (suc m) e) f (is-false _ (not-T (eq (fin false (suc m) e) z) (λ (t : T (eq (fin false (suc m) e) z)). pos-zero m e (eqb→eq _ _ (and-l (eqb (suc m * up e * 1) (0 * down e)) true t) ∙ zero-mul (down e)))))
+pattern-above m e f = pattern-pos (fin false (suc m) e) f
+    (is-false _ (not-T (eq (fin false (suc m) e) z)
+    (λ (t : T (eq (fin false (suc m) e) z)). pos-zero m e (eqb→eq _ _ (and-l (eqb (suc m * up e * 1) (0 * down e)) true t) ∙ zero-mul (down e)))))
 
 -- every finite number's pattern is below that of the infinity
 pub fin-under : (m : ℕ) (e : ℤ) → T (fits binary64 (fin false (suc m) e)) → toBits binary64 (fin false (suc m) e) < 2047 * 2 ^ 52
 unfolding fits toBits
 fin-under m e f =
     let a : ℕ = suc m * up e * 2 ^ 1074 / down e in
-    let h : suc m * up e < 2 ^ 1024 * down e = ltb→lt _ _ (and-r (eqb (suc m % 2) 1 && ltb (suc m) (2 ^ 53) && leb (down e) (2 ^ 1074)) (ltb (suc m * up e) (2 ^ 1024 * down e)) f) in
+    let h : suc m * up e < 2 ^ 1024 * down e = ltb→lt _ _
+    (and-r (eqb (suc m % 2) 1 && ltb (suc m) (2 ^ 53) && leb (down e) (2 ^ 1074)) (ltb (suc m * up e) (2 ^ 1024 * down e)) f) in
     let l : a < 2 ^ 2098 =
     div-lt-iff-lt-mul (down-pos e) .1 (lt-of-lt-of-le (mul-lt-mul-of-pos-right h (pow-pos 1074)) (le-of-eq (mul-right-comm (2 ^ 1024) (down e) (2 ^ 1074)))) in
     sum (size a) (a / 2 ^ (size a - 53)) (size-le a 2098 l) (kept-lt 53 a)
@@ -124,7 +131,8 @@ unfolding ofFields
 fields-value zero t h = subst (λ (x : ℕ). HasValue (odd 53 false t 0 1074) false x (2 ^ 1074)) (mul-one t) (odd-sign 53 false t 0 1074)
 fields-value (suc x) t h =
     subst (λ (v : Float). HasValue v false ((2 ^ 52 + t) * 2 ^ x) (2 ^ 1074))
-    (sym (cond-no (eqb (suc x) 2047) (cond (eqb t 0) (inf false) nan) (odd 53 false (2 ^ 52 + t) x 1074) (not-T (eqb (suc x) 2047) (λ (u : T (eqb (suc x) 2047)). differ x h (eqb→eq (suc x) 2047 u)))))
+    (sym (cond-no (eqb (suc x) 2047) (cond (eqb t 0) (inf false) nan) (odd 53 false (2 ^ 52 + t) x 1074)
+    (not-T (eqb (suc x) 2047) (λ (u : T (eqb (suc x) 2047)). differ x h (eqb→eq (suc x) 2047 u)))))
     (odd-sign 53 false (2 ^ 52 + t) x 1074)
   where
     differ : (x : ℕ) → suc x < 2047 → suc x ≡ 2047 → ⊥
@@ -161,13 +169,15 @@ unfolding toBits
 inf-not l = lt-irrefl (2047 * 2 ^ 52) l
 
 -- a number's units of 4 ^ -1074, by its pattern
-pub number-mag : (m : ℕ) (e : ℤ) → T (fits binary64 (fin false (suc m) e)) → suc m * up e * 4 ^ 1074 / down e ≡ mag (toBits binary64 (fin false (suc m) e)) * 2 ^ 1074
+pub number-mag : (m : ℕ) (e : ℤ) → T (fits binary64 (fin false (suc m) e))
+    → suc m * up e * 4 ^ 1074 / down e ≡ mag (toBits binary64 (fin false (suc m) e)) * 2 ^ 1074
 number-mag m e f =
     let b = toBits binary64 (fin false (suc m) e) in
     let v = subst (λ (y : Float). HasValue y false (mag b) (2 ^ 1074)) (ofBits-toBits binary64 (fin false (suc m) e) f) (bits-value b (fin-under m e f)) in
     fin-mag (suc m) e (mag b) (v .1)
 
-pub at-number : (x : Float) → View x → T (fits binary64 x) → toBits binary64 x < 2047 * 2 ^ 52 → rounded binary64 (mag (toBits binary64 x) * 2 ^ 1074) ≡ sqrtOf binary64 x
+pub at-number : (x : Float) → View x → T (fits binary64 x) → toBits binary64 x < 2047 * 2 ^ 52
+    → rounded binary64 (mag (toBits binary64 x) * 2 ^ 1074) ≡ sqrtOf binary64 x
 unfolding sqrtOf
 at-number x infinite f h = absurd (inf-not h)
 at-number x (above m e) f h = ap (λ (n : ℕ). rounded binary64 n) (sym (number-mag m e f))

@@ -58,7 +58,8 @@ from-pair q e n a b c d h = subst (λ (x : ℕ). As (2 ^ 52) x) h (go (eqb (e % 
     deepest m l = omega arith
 
     go : (b : Bool) → (T b → e % 2 ≡ 0) → (T (not b) → e % 2 ≡ 0 → ⊥) → As (2 ^ 52) (q * 2 ^ (e + 1073))
-    go true x y = subst (λ (n : ℕ). As (2 ^ 52) n) (even-pair q e (x tt)) (norm 26 (2 * q) ((e + 1072) / 2) (deepest (2 * q) (omega arith)) (omega arith) (omega arith) (omega arith) (omega arith))
+    go true x y = subst (λ (n : ℕ). As (2 ^ 52) n) (even-pair q e (x tt))
+        (norm 26 (2 * q) ((e + 1072) / 2) (deepest (2 * q) (omega arith)) (omega arith) (omega arith) (omega arith) (omega arith))
     go false x y = subst (λ (n : ℕ). As (2 ^ 52) n) (odd-pair q e (y tt)) (norm 26 q ((e + 1073) / 2) (deepest q a) a (omega arith) (omega arith) (omega arith))
 
 from-pattern : (b : ℕ) → 0 < b → b < 2047 * 2 ^ 52 → As (2 ^ 52) (mag b * 2 ^ 1074)
@@ -72,7 +73,8 @@ from-pattern b l h = go (eqb (b / 2 ^ 52) 0) (eqb→eq (b / 2 ^ 52) 0) (neqb→n
 
         under : (b : ℕ) → b % 2 ^ 52 < 2 ^ 53
         under b = omega arith
-    go false x y = let z = y tt in from-pair (b % 2 ^ 52 + 2 ^ 52) (b / 2 ^ 52) (mag b * 2 ^ 1074) (omega arith) (under b) (some (b / 2 ^ 52) z) (field b h) (high-pattern b z)
+    go false x y = let z = y tt in from-pair (b % 2 ^ 52 + 2 ^ 52) (b / 2 ^ 52) (mag b * 2 ^ 1074) (omega arith) (under b) (some (b / 2 ^ 52) z) (field b h)
+        (high-pattern b z)
       where
         some : (x : ℕ) → (x ≡ 0 → ⊥) → 0 < x
         some x n = omega arith
@@ -86,7 +88,9 @@ from-pattern b l h = go (eqb (b / 2 ^ 52) 0) (eqb→eq (b / 2 ^ 52) 0) (neqb→n
 -- ---- the theorem
 
 rooted : (n : ℕ) → As (2 ^ 52) n → Rooted n (rounded binary64 n)
-rooted n s = subst (λ (x : ℕ). Rooted x (rounded binary64 x)) (mul-assoc (s .m) (4 ^ 26) (4 ^ (s .g - 26)) ∙ ap (λ (x : ℕ). s .m * x) (sym (pow-add 4 26 (s .g - 26)) ∙ ap (λ (x : ℕ). 4 ^ x) (all (s .g) (s .from))) ∙ s .is) at-t
+rooted n s = subst (λ (x : ℕ). Rooted x (rounded binary64 x))
+    (mul-assoc (s .m) (4 ^ 26) (4 ^ (s .g - 26)) ∙ ap (λ (x : ℕ). s .m * x) (sym (pow-add 4 26 (s .g - 26)) ∙ ap (λ (x : ℕ). 4 ^ x) (all (s .g) (s .from)))
+    ∙ s .is) at-t
   where
     all : (g : ℕ) → 510 ≤ g → 26 + (g - 26) ≡ g
     all g a = omega arith

@@ -196,5 +196,6 @@ near-is n (suc q) l h = go (leb (suc q * suc q) n) (leb→le _ _) (nleb→lt _ _
         let e : suc q ≡ q + 1 = omega arith in
         e ∙ near-up n q (n - q * q) (omega arith) (omega arith) (omega arith)
 
-pub near-by-square : (m k h t : ℕ) → h * 2 ^ 52 + t ≡ k * k → h ≤ m + 2 → t + 2 ^ 53 < (m + 2 - h) * 2 ^ 52 + k → (m + 2 - h) * 2 ^ 52 ≤ t + k + 2 ^ 53 → k ≡ nearRoot (m * 4 ^ 26)
+pub near-by-square : (m k h t : ℕ) → h * 2 ^ 52 + t ≡ k * k → h ≤ m + 2 → t + 2 ^ 53 < (m + 2 - h) * 2 ^ 52 + k → (m + 2 - h) * 2 ^ 52 ≤ t + k + 2 ^ 53
+    → k ≡ nearRoot (m * 4 ^ 26)
 near-by-square m k h t e l a b = near-is (m * 4 ^ 26) k (omega arith) (omega arith)

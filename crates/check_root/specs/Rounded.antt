@@ -2,7 +2,8 @@
 use mathlib.Core.Path.{_≡_, sym, ap, _∙_, subst}
 use mathlib.Core.Logic.{inl, inr}
 use Prim.Native.Nat.{ℕ, zero, suc, _+_, _-_, _*_, _/_, _^_, _≤_, _<_}
-use native.Mathlib.Nat.{le-trans, le-of-eq, lt-of-lt-of-le, lt-of-le-of-lt, eq-or-lt-of-le, mul-assoc, mul-le-mul-left, mul-le-mul-right, mul-div-cancel, le-refl, mul-lt-mul-of-pos-right, zero-add}
+use native.Mathlib.Nat.{le-trans, le-of-eq, lt-of-lt-of-le, lt-of-le-of-lt, eq-or-lt-of-le, mul-assoc, mul-le-mul-left, mul-le-mul-right, mul-div-cancel}
+use native.Mathlib.Nat.{le-refl, mul-lt-mul-of-pos-right, zero-add}
 use native.Mathlib.Omega.{arith}
 use mathlib.Core.Bool.{Bool, true, false}
 use lib.Dec.{T, lit<}
@@ -18,7 +19,8 @@ use Rattle.check_root.specs.Root.{root, rest, nearRoot}
 use Rattle.check_root.specs.Sqrt.{rounded, sqrtOf}
 use Rattle.check_root.specs.Squares.{Near}
 use Rattle.check_root.specs.Powers.{pow4-pos}
-use Rattle.check_root.specs.Roots.{root-ge, root-lt, near-ge, near-between, root-low, root-high, root-from, root-under, middle-below, middle-above, half-is}
+use Rattle.check_root.specs.Roots.{root-ge, root-lt, near-ge, near-between, root-low, root-high, root-from, root-under, middle-below, middle-above}
+use Rattle.check_root.specs.Roots.{half-is}
 use Rattle.check_root.specs.Round.{size-is, drop-is, kept-is}
 
 -- ---- the pattern of a value of a units
@@ -32,7 +34,8 @@ fin-bits m e a h =
 pub value-bits : (v : Float) (a : ℕ) → HasValue v false a (2 ^ 1074) → toBits binary64 v ≡ (size a - 53) * 2 ^ 52 + a / 2 ^ (size a - 53)
 value-bits nan a h = absurd h
 value-bits (inf s) a h = absurd h
-value-bits (fin s m e) a h = subst (λ (b : Bool). toBits binary64 (fin b m e) ≡ (size a - 53) * 2 ^ 52 + a / 2 ^ (size a - 53)) (sym (h .0)) (fin-bits m e a (h .1))
+value-bits (fin s m e) a h = subst (λ (b : Bool). toBits binary64 (fin b m e) ≡ (size a - 53) * 2 ^ 52 + a / 2 ^ (size a - 53)) (sym (h .0))
+    (fin-bits m e a (h .1))
 
 -- two floats of the format with one value
 pub same-value : (x y : Float) (a : ℕ) → T (fits binary64 x) → T (fits binary64 y) → HasValue x false a (2 ^ 1074) → HasValue y false a (2 ^ 1074) → x ≡ y
@@ -61,7 +64,8 @@ bits-normal k d l h =
 -- 2 ^ 53 * 2 ^ d is 2 ^ 52 * 2 ^ (d + 1)
 pub bits-carry : (d : ℕ) → (size (2 ^ 53 * 2 ^ d) - 53) * 2 ^ 52 + 2 ^ 53 * 2 ^ d / 2 ^ (size (2 ^ 53 * 2 ^ d) - 53) ≡ 2 ^ 53 + d * 2 ^ 52
 bits-carry d =
-    ap (λ (x : ℕ). (size x - 53) * 2 ^ 52 + x / 2 ^ (size x - 53)) (again (2 ^ d) (pow-add 2 d 1)) ∙ bits-normal (2 ^ 52) (d + 1) (le-refl (2 ^ 52)) (lit< tt) ∙ sum d
+    ap (λ (x : ℕ). (size x - 53) * 2 ^ 52 + x / 2 ^ (size x - 53)) (again (2 ^ d) (pow-add 2 d 1)) ∙ bits-normal (2 ^ 52) (d + 1) (le-refl (2 ^ 52)) (lit< tt)
+    ∙ sum d
   where
     again : (p : ℕ) → 2 ^ (d + 1) ≡ p * 2 → 2 ^ 53 * p ≡ 2 ^ 52 * 2 ^ (d + 1)
     again p e = omega arith
@@ -85,7 +89,8 @@ grid-at : (n h p u : ℕ) → 0 < u → Near n p (h + 1) → kept 53 (twice n * 
 grid-at n h p u U b =
     let d : ℕ = h + 1 in
     let a = twice n in
-    let x : drop 53 (a * u) (2 * u) ≡ d = drop-is a u d U (subst (λ (z : ℕ). 2 ^ 52 * 2 ^ d ≤ z) (sym (half-is n)) (root-from n (2 ^ 52) d (b .from))) (subst (λ (z : ℕ). z < 2 ^ 53 * 2 ^ d) (sym (half-is n)) (root-under n (2 ^ 53) d (b .under))) in
+    let x : drop 53 (a * u) (2 * u) ≡ d = drop-is a u d U (subst (λ (z : ℕ). 2 ^ 52 * 2 ^ d ≤ z) (sym (half-is n)) (root-from n (2 ^ 52) d (b .from)))
+    (subst (λ (z : ℕ). z < 2 ^ 53 * 2 ^ d) (sym (half-is n)) (root-under n (2 ^ 53) d (b .under))) in
     let y : kept 53 (a * u) (2 * u) ≡ p + 1 = kept-is a u d U p x (middle-below (2 * p + 1) n h (b .left)) (middle-above (2 * p + 3) n h (b .right)) in
     ap (λ (z : ℕ). z * 2 ^ drop 53 (a * u) (2 * u)) y ∙ ap (λ (z : ℕ). (p + 1) * 2 ^ z) x
 
@@ -120,7 +125,8 @@ near-scaled t d p l g e =
     let b = near-between t p e in
     record {
       from = mul-le-mul-right (4 ^ d) (le-trans (le-trans (mul-le-mul-left (2 ^ 52) l) (mul-le-mul-right (root t) l)) (root-low t));
-      under = mul-lt-mul-of-pos-right (lt-of-lt-of-le (root-high t) (le-trans (mul-le-mul-left (root t + 1) (next g)) (mul-le-mul-right (2 ^ 53) (next g)))) (pow4-pos d);
+      under = mul-lt-mul-of-pos-right (lt-of-lt-of-le (root-high t) (le-trans (mul-le-mul-left (root t + 1) (next g)) (mul-le-mul-right (2 ^ 53) (next g))))
+          (pow4-pos d);
       left = lt-of-lt-of-le (mul-lt-mul-of-pos-right (b .0) (pow4-pos d)) (le-of-eq (mul-assoc 4 t (4 ^ d)));
       right = lt-of-le-of-lt (le-of-eq (sym (mul-assoc 4 t (4 ^ d)))) (mul-lt-mul-of-pos-right (b .1) (pow4-pos d));
     }
@@ -150,7 +156,8 @@ of-near t d l g D E =
     let q : nearRoot t ≡ p + 1 = from (root t) (nearRoot t) l (near-ge t .0) in
     let h = rounded-value (t * 4 ^ d) d p D E (small (nearRoot t) (near-le t g)) (near-scaled t d p l g q) in
     let b : toBits binary64 v ≡ nearRoot t + d * 2 ^ 52 =
-    value-bits v (nearRoot t * 2 ^ d) (subst (λ (x : ℕ). HasValue v false (x * 2 ^ d) (2 ^ 1074)) (sym q) h) ∙ units-bits (nearRoot t) d (le-trans l (near-ge t .0)) (near-le t g) in
+    value-bits v (nearRoot t * 2 ^ d) (subst (λ (x : ℕ). HasValue v false (x * 2 ^ d) (2 ^ 1074)) (sym q) h) ∙ units-bits (nearRoot t) d
+    (le-trans l (near-ge t .0)) (near-le t g) in
     ap (ofBits binary64) (sym b) ∙ ofBits-toBits binary64 v (rounded-fits (t * 4 ^ d))
   where
     from : (r k : ℕ) → 2 ^ 52 ≤ r → r ≤ k → k ≡ k - 1 + 1
@@ -161,10 +168,12 @@ of-near t d l g D E =
 
 -- ---- in `of_pattern`'s terms
 
-pub of-scaled : (m g : ℕ) → 2 ^ 52 ≤ m → m < 2 ^ 54 → 510 ≤ g → g < 1560 → ofBits binary64 (nearRoot (m * 4 ^ 26) + (g - 26) * 2 ^ 52) ≡ rounded binary64 (m * 4 ^ g)
+pub of-scaled : (m g : ℕ) → 2 ^ 52 ≤ m → m < 2 ^ 54 → 510 ≤ g → g < 1560
+    → ofBits binary64 (nearRoot (m * 4 ^ 26) + (g - 26) * 2 ^ 52) ≡ rounded binary64 (m * 4 ^ g)
 of-scaled m g l h a b =
     of-near (m * 4 ^ 26) (g - 26) (root-ge (m * 4 ^ 26) (2 ^ 52) (omega arith)) (root-lt (m * 4 ^ 26) (2 ^ 53) (omega arith)) (omega arith) (omega arith)
-    ∙ ap (λ (x : ℕ). rounded binary64 x) (mul-assoc m (4 ^ 26) (4 ^ (g - 26)) ∙ ap (λ (x : ℕ). m * x) (sym (pow-add 4 26 (g - 26)) ∙ ap (λ (x : ℕ). 4 ^ x) (all g a)))
+    ∙ ap (λ (x : ℕ). rounded binary64 x)
+    (mul-assoc m (4 ^ 26) (4 ^ (g - 26)) ∙ ap (λ (x : ℕ). m * x) (sym (pow-add 4 26 (g - 26)) ∙ ap (λ (x : ℕ). 4 ^ x) (all g a)))
   where
     all : (g : ℕ) → 510 ≤ g → 26 + (g - 26) ≡ g
     all g a = omega arith

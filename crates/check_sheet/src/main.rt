@@ -1,131 +1,94 @@
 // Checks a load sheet: a load file on standard input, its findings on standard output, a line each.
-ghost use Prim.Native.Nat.{_≤_};
 use libc::STDIN_FILENO;
 use libc::STDOUT_FILENO;
+use program_io::BYTES;
 
-// One byte more than a load file may have, so that a longer input is seen to be longer and not cut.
-const BYTES: usize = 60001;
+// The findings that there is room for, and their words, five to a finding.
+const SLOTS: usize = 1600;
 
-// 1,600 slots of five words.
-const CELLS: usize = 8000;
+const CELLS: usize = 5 * SLOTS;
 
-fn text(t: &[u8]) {
-    io::write_all(STDOUT_FILENO, t);
+fn text(t: &[u8]) -> bool {
+    io::write_all(STDOUT_FILENO, t)
 }
 
-fn number(n: u64) {
-    text(b" ");
-    io::print_decimal(STDOUT_FILENO, n);
+fn number(n: u64) -> bool {
+    let led = text(b" ");
+    let told = io::print_decimal(STDOUT_FILENO, n);
+    led & told
 }
 
-fn float(bits: u64) {
-    text(b" ");
-    let digits = show::hex(bits);
-    io::write_all(STDOUT_FILENO, &digits);
-}
-
-fn name(finding: u64) {
-    match finding {
-        1 => text(b"unknown"),
-        2 => text(b"out-of-range"),
-        3 => text(b"repeated"),
-        4 => text(b"orientation"),
-        5 => text(b"bin"),
-        6 => text(b"outside"),
-        7 => text(b"overlap"),
-        8 => text(b"too-close"),
-        9 => text(b"mass"),
-        10 => text(b"missing"),
-        _ => text(b"wrongly-unplaced"),
+// Writes finding k, and answers whether it could.
+fn write_finding(words: &[u64; CELLS], k: usize) -> bool {
+    if SLOTS <= k {
+        return true;
     }
+    let at = 5 * k;
+    let mut line = [0u8; show_finding::LINE];
+    let n = show_finding::finding_line(
+        words[at],
+        words[at + 1],
+        words[at + 2],
+        words[at + 3],
+        words[at + 4],
+        &mut line,
+    );
+    text(&line[..n])
 }
 
-// How many of a finding's four fields are used.
-fn used(finding: u64) -> usize
-    ensures { λ r. ⌜ r ≤ 4 ⌝ }
-{
-    match finding {
-        2 | 8 => 4,
-        3 | 4 => 3,
-        10 | 11 => 1,
-        _ => 2,
-    }
-}
-
-// Whether field i of a finding is a float's bits.
-fn is_float(finding: u64, i: usize) -> bool {
-    (finding == 9) | ((finding == 8) & (i >= 2))
-}
-
-fn field(finding: u64, i: usize, word: u64) {
-    if is_float(finding, i) {
-        float(word);
-        return;
-    }
-    number(word);
-}
-
-// The finding whose five words start at `at`.
-fn line(words: &[u64; CELLS], at: usize) {
-    if CELLS - 5 < at {
-        return;
-    }
-    let finding = words[at];
-    name(finding);
-    let n = used(finding);
-    let mut i = 0;
-    while i < n {
-        field(finding, i, words[at + 1 + i]);
-        i += 1;
-    }
-    text(b"\n");
-}
-
-// As many as there are slots: an accepted check never has more.
-fn in_slots(count: usize) -> usize
-    ensures { λ r. ⌜ r ≤ 1600 ⌝ }
-{
-    if count < 1600 {
-        return count;
-    }
-    1600
-}
-
-fn list(words: &[u64; CELLS], count: usize) {
-    text(b"findings");
-    number(count as u64);
-    text(b"\n");
-    let n = in_slots(count);
+// Writes the findings, and answers whether it could; it stops at the first that it can't write.
+fn write_each(words: &[u64; CELLS], count: usize) -> bool {
     let mut k = 0;
-    while k < n {
-        line(words, k * 5);
+    while k < count {
+        if !write_finding(words, k) {
+            return false;
+        }
         k += 1;
     }
+    true
 }
 
-fn refuse(refused: u32, count: usize) {
-    text(b"refused");
-    number(refused as u64);
+fn write_findings(words: &[u64; CELLS], count: usize) -> bool {
+    let named = text(b"findings");
+    let counted = number(count as u64);
+    let ended = text(b"\n");
+    let each = write_each(words, count);
+    named & counted & ended & each
+}
+
+// The count that comes with refusal 6.
+fn write_needed(refused: u64, count: usize) -> bool {
     if refused == 6 {
-        number(count as u64);
+        return number(count as u64);
     }
-    text(b"\n");
+    true
+}
+
+fn write_refusal(refused: u64, count: usize) -> bool {
+    let named = text(b"refused") & number(refused);
+    let needed = write_needed(refused, count);
+    let ended = text(b"\n");
+    named & needed & ended
+}
+
+// Writes what a load file gets, and answers whether it could.
+fn write_answer(f: &[u8]) -> bool {
+    let mut words = [0u64; CELLS];
+    let answer = waikurpeho::wk_check(f, &mut words);
+    let refused = program_io::refusal_of(answer);
+    let count = program_io::count_of(answer);
+    if refused != 0 {
+        return write_refusal(refused, count);
+    }
+    write_findings(&words, count)
 }
 
 fn main() {
     let mut bytes = [0u8; BYTES];
     let n = io::read_full(STDIN_FILENO, &mut bytes);
-    let read = file_laws::read_sheet(&bytes[..n]);
-    if read.refused != 0 {
-        refuse(read.refused, 0);
+    if program_io::broken_off(n) {
+        program_io::tell_unread();
         return;
     }
-    let sheet = read.sheet;
-    let mut words = [0u64; CELLS];
-    let checked = check_packing::check_packing(sheet, &mut words);
-    if checked.refused != 0 {
-        refuse(checked.refused, checked.count);
-        return;
-    }
-    list(&words, checked.count);
+    program_io::tell_unwritten(write_answer(&bytes[..n]));
 }

@@ -1,8 +1,7 @@
--- Lists of words, made part by part.
+-- Words that are there only where a test holds.
 use Prim.Native.Nat.{ℕ}
 use mathlib.Core.List.{List, []}
 use mathlib.Core.Bool.{Bool, true, false}
-unfoldable pub use Rattle.lists.specs.Below.{allBelow}
 
 -- the words where the test holds, else none
 abbrev pub onlyIf : Bool → List ℕ → List ℕ

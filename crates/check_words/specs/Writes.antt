@@ -1,6 +1,6 @@
--- Laws on words written part by part, and on lists of words made so.
+-- Laws on words written part by part.
 use mathlib.Core.Path.{_≡_, refl, sym, ap, _∙_}
-use Prim.Native.Nat.{ℕ, zero, suc, _+_, _<_}
+use Prim.Native.Nat.{ℕ, suc, _+_}
 use mathlib.Core.List.{List, [], _∷_, _++_}
 use native.Mathlib.Nat.{add-zero, add-suc, suc-add}
 use native.Mathlib.Numerals.{add-one}
@@ -8,7 +8,8 @@ use native.Mathlib.Omega.{arith}
 use lib.ListN.{length, length-append, set}
 use lib.Seq.{sets, length-sets}
 use mathlib.Core.Bool.{Bool, true, false}
-use Rattle.check_words.specs.Words.{onlyIf, allBelow}
+use Rattle.lists.specs.Below.{allBelow}
+use Rattle.check_words.specs.Words.{onlyIf}
 use Rattle.check_words.specs.Wrote.{Wrote}
 
 sets-append : (o : List ℕ) (at : ℕ) (ws vs : List ℕ) → sets o at (ws ++ vs) ≡ sets (sets o at ws) (at + length ws) vs
@@ -26,24 +27,13 @@ wrote-then {o} {o₁} {o₂} {at} {m} {r} {ws} {vs} a b =
     }
 
 -- one more turn of a loop
-pub wrote-more : (g : ℕ → List ℕ) (n : ℕ) {o o₁ o₂ : List ℕ} {at m r : ℕ} → Wrote o at (allBelow g n) m o₁ → Wrote o₁ m (g n) r o₂ → Wrote o at (allBelow g (n + 1)) r o₂
+pub wrote-more : (g : ℕ → List ℕ) (n : ℕ) {o o₁ o₂ : List ℕ} {at m r : ℕ}
+    → Wrote o at (allBelow g n) m o₁ → Wrote o₁ m (g n) r o₂ → Wrote o at (allBelow g (n + 1)) r o₂
 unfolding allBelow
 wrote-more g n a b = rw add-one (wrote-then a b)
 
 pub wrote-length : {o o′ : List ℕ} {at r : ℕ} {ws : List ℕ} → Wrote o at ws r o′ → length o′ ≡ length o
 wrote-length {o} {o′} {at} {r} {ws} w = ap length (w .cells) ∙ length-sets o at ws
-
--- parts that are empty give nothing
-pub all-none : (g : ℕ → List ℕ) (n : ℕ) → ((i : ℕ) → i < n → g i ≡ []) → allBelow g n ≡ []
-unfolding allBelow
-all-none g zero h = refl
-all-none g (suc n) h = rw (all-none g n (λ i l. h i (omega arith)), h n (omega arith))
-
--- parts that are the same give the same
-pub all-same : (f g : ℕ → List ℕ) (n : ℕ) → ((i : ℕ) → i < n → f i ≡ g i) → allBelow f n ≡ allBelow g n
-unfolding allBelow
-all-same f g zero h = refl
-all-same f g (suc n) h = rw (all-same f g n (λ i l. h i (omega arith)), h n (omega arith))
 
 pub only-nothing : (b : Bool) → onlyIf b [] ≡ []
 only-nothing true = refl

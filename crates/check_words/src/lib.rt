@@ -1,21 +1,24 @@
-// What the parts of the checker share: a finding written into lent cells, the box of a line, and a place in a table of kinds.
+// What the parts of the checker share: a finding written into lent cells, and the box of a line.
 ghost use mathlib.Core.Path.{_≡_};
 ghost use mathlib.Core.List.{[], _∷_};
-ghost use Prim.Native.Nat.{_+_, _≤_, _<_};
-ghost use Rattle.domain.specs.Bounds.{mostKinds};
+ghost use Prim.Native.Nat.{_+_, _<_};
 ghost use Rattle.check_words.specs.Words.{onlyIf};
-ghost use Rattle.check_words.specs.Wrote.{Wrote, Given, mostCells};
-ghost use Rattle.check_words.specs.Boxes.{within, boxOf};
+ghost use Rattle.check_words.specs.Wrote.{Wrote, Given, mostWords};
+ghost use Rattle.check_words.specs.Boxes.{boxOf};
 use check_pair::Extent;
 use measures::Kind;
 use sheet::Line;
 
-// No finding begins past so many cells.
-const MOST_CELLS: usize = 100000000;
+// A square of lines: as many as there are pairs, and more.
+const PAIRS: usize = domain::MOST_LINES * domain::MOST_LINES;
+
+// No finding begins past so many cells: five words for each that there can be.
+const MOST_WORDS: usize = 5
+    * (6 * domain::MOST_LINES + PAIRS + domain::MOST_KINDS + domain::MOST_UNPLACED + 1);
 
 // A word past the last cell is not stored, so that the same run counts and writes.
 fn put(out: &mut [u64], at: usize, w: u64) -> usize
-    requires { ⌜ at < 1000000000 ⌝ }
+    requires { ⌜ at < mostWords + 5 ⌝ }
     ensures { λ r. ⌜ Wrote (now (out .entry)) at (w ∷ []) r (now (out .exit)) ⌝ }
 {
     if out.len() <= at {
@@ -26,7 +29,7 @@ fn put(out: &mut [u64], at: usize, w: u64) -> usize
 }
 
 fn put5(out: &mut [u64], at: usize, a: u64, b: u64, c: u64, d: u64, e: u64) -> usize
-    requires { ⌜ at < mostCells ⌝ }
+    requires { ⌜ at < mostWords ⌝ }
     ensures { λ r. ⌜ Wrote (now (out .entry)) at (a ∷ b ∷ c ∷ d ∷ e ∷ []) r (now (out .exit)) ⌝ }
 {
     let p = put(out, at, a);
@@ -38,9 +41,9 @@ fn put5(out: &mut [u64], at: usize, a: u64, b: u64, c: u64, d: u64, e: u64) -> u
 
 // A finding of five words where the test holds; none begins past the most cells that there can be.
 pub fn put_if(out: &mut [u64], at: usize, on: bool, a: u64, b: u64, c: u64, d: u64, e: u64) -> usize
-    ensures { λ r. ⌜ Given (now (out .entry)) at (onlyIf on (a ∷ b ∷ c ∷ d ∷ e ∷ [])) r (now (out .exit)) × (r ≤ at + 5) ⌝ }
+    ensures { λ r. ⌜ Given (now (out .entry)) at (onlyIf on (a ∷ b ∷ c ∷ d ∷ e ∷ [])) r (now (out .exit)) ⌝ }
 {
-    if MOST_CELLS <= at {
+    if MOST_WORDS <= at {
         return at;
     }
     if on {
@@ -49,22 +52,13 @@ pub fn put_if(out: &mut [u64], at: usize, on: bool, a: u64, b: u64, c: u64, d: u
     at
 }
 
-// A place that a table of kinds has.
-pub fn within(k: usize) -> usize
-    ensures { λ r. ⌜ (r ≡ within k) × (r < mostKinds) ⌝ }
-{
-    if k < domain::MOST_KINDS {
-        return k;
-    }
-    63
-}
-
 // Where a line of this kind puts its box.
 pub fn box_of(l: Line, k: Kind) -> Extent
     ensures { λ r. ⌜ r ≡ boxOf l k ⌝ }
 {
-    let min = l.at;
+    let at = l.at;
     let size = measures::dimensions_for_orientation(k, l.orientation);
-    let max = [min[0] + size[0], min[1] + size[1], min[2] + size[2]];
+    let min = [at[0], at[1], at[2]];
+    let max = [at[0] + size[0], at[1] + size[1], at[2] + size[2]];
     Extent { min, max }
 }

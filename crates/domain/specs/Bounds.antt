@@ -3,7 +3,7 @@ use Prim.Native.Nat.{ℕ, _-_}
 use mathlib.Core.Bool.{cond}
 use lib.Dec.{ltb}
 
--- 01: "At most 64 kinds, 256 boxes in total quantity, 256 placement lines, 256 unplaced ids, 256 items, 256 instance records."
+-- RULES: Numbers that bound it. Kinds, boxes of all kinds together, lines, unplaced ids, items, records of an instance list: at most so many.
 abbrev pub mostKinds : ℕ
 mostKinds = 64
 

@@ -17,31 +17,31 @@ mostLimit = ofBits binary64 0x426D1A94A2000000
 abbrev nothing : Float
 nothing = ofBits binary64 0
 
--- 01: "no negative zero except in a position". Its bits are the sign alone.
+-- RULES: Ranges. −0 is in range as a position and nowhere else. Its bits are the sign alone.
 abbrev pub negativeZero : Float → Bool
 negativeZero x = eqb (toBits binary64 x) (2 ^ 63)
 
--- 01: "Lengths of kinds and container: 0.000001 to 1,000,000,000."
+-- RULES: Ranges. A length of a kind or of the container: from a millionth to a billion, both ends included.
 abbrev pub isLength : Float → Bool
 isLength x = le leastLength x && le x most
 
--- 01: "Margin, spacing, masses: 0 to 1,000,000,000."
+-- RULES: Ranges. A margin, a spacing, a mass: from 0 to a billion, and not −0.
 abbrev pub isMeasure : Float → Bool
 isMeasure x = (le nothing x && le x most) && not (negativeZero x)
 
--- 01: "Mass limit: above 0, to 1,000,000,000,000", and in the load file "all-zero limit means none".
+-- RULES: Ranges. A mass limit: above 0, up to 1,000,000,000,000; where all its bits are 0 there is none.
 abbrev pub isLimit : Float → Bool
 isLimit x = eqb (toBits binary64 x) 0 || (lt nothing x && le x mostLimit)
 
--- 01: "Positions: magnitude up to 1,000,000,000."
+-- RULES: Ranges. One axis of a position: a billion either way at most.
 abbrev pub isPosition : Float → Bool
 isPosition x = le (neg most) x && le x most
 
--- 01: "a fill from 0 to 1,000,000,000 (else 3)", for the fitness
+-- RULES: Ranges. The fill that the fitness call is handed: from 0 to a billion, and not −0.
 abbrev pub isFill : Float → Bool
 isFill = isMeasure
 
--- ---- the constants are the decimals of 01: each is the float nearest to it
+-- ---- the constants are the decimals of RULES, Ranges: each is the float nearest to it
 
 pub least-length-is : leastLength ≡ round binary64 false 1 1000000
 unfolding ofBits round

@@ -2,9 +2,11 @@
 use Prim.Native.Nat.{ℕ, zero, suc}
 use mathlib.Core.Bool.{Bool, true, false}
 
--- 01's numbers, each with where its condition is defined:
+-- RULES: Refusals. The numbers, each with where its condition is defined:
 --   1 the load file's shape (file_read: rightShape)
---   2 a count or the total quantity (sheet: overCount, sheetRefusal; point_state: overCounts; layer_fill: placeRefusal; sheet_kinds: surveyOf; plan_unplaced: overBound; plan_sheet: planRefusal; point_place: fillRefusal; layer_instances: seedRefusal; layer_plan: itemsRefusal; layer_fitness: fitnessRefusal)
+-- 2 a count or the total quantity (sheet: overCount, sheetRefusal; point_state: overCounts; layer_fill: placeRefusal; sheet_kinds: surveyOf;
+-- plan_unplaced: overBound; plan_sheet: planRefusal; point_place: fillRefusal; layer_instances: seedRefusal; layer_plan: itemsRefusal; layer_fitness:
+-- fitnessRefusal)
 --   3 a measure or a position (measures: measureFault, containerFault; sheet: lineFault; layer_fitness: fitnessRefusal; layer_lent: askedFault)
 --   4 a kind record (measures: recordFault)
 --   5 a repeated id (sheet: sameId)

@@ -1,4 +1,5 @@
 -- What the measured examples are made of.
+use mathlib.Core.Path.{_≡_}
 use mathlib.Core.Bool.{Bool, true, false}
 use mathlib.Core.List.{List, [], _∷_, _++_}
 use Prim.Native.Nat.{ℕ, _-_}
@@ -11,7 +12,9 @@ use Rattle.measures.specs.declared.Container.{Container}
 use Rattle.sheet.specs.declared.Counts.{Counts}
 use Rattle.sheet.specs.declared.Line.{Line}
 use Rattle.sheet.specs.declared.Sheet.{Sheet}
-use Rattle.sheet.specs.Sheets.{noKind, noLine}
+use Rattle.sheet.specs.Sheets.{blankKind, blankLine, sheetRefusal}
+use Rattle.check_packing.specs.declared.Checked.{Checked}
+use Rattle.check_packing.specs.Check.{checkedOf, cellsOf}
 use Rattle.point_state.specs.declared.ExtremePointSet.{ExtremePointSet}
 use Rattle.point_state.specs.Fresh.{freshOf}
 use Rattle.point_place.specs.declared.Tried.{Tried}
@@ -37,7 +40,7 @@ cube a = at a a a
 abbrev pub case : List Float → Float → Container
 case size spacing = record { size = size; margin = none; spacing = spacing; limit = none }
 
--- 01: "Container 10×10×10, margin and spacing 0 unless said"
+-- a container of 10×10×10, margin and spacing 0 unless said
 abbrev pub ten : Container
 ten = case (cube (whole 10)) none
 
@@ -68,7 +71,7 @@ second b k = placedBest (first b k .next) k 1
 abbrev pub third : Container → Kind → Placing
 third b k = placedBest (second b k .next) k 2
 
--- ---- sheets: kind 7 is a fixed 4-cube; line (7, instance) at x, index and bin 0
+-- ---- sheets as a call can hand them over, blank past what counts: kind 7 is a fixed 4-cube; line (7, instance) at x, index and bin 0
 abbrev pub seven : ℕ → Kind
 seven n = kind fixed n (cube (whole 4))
 
@@ -80,8 +83,8 @@ sheetOf c ks ls us =
     record {
       many = record { kinds = length ks; lines = length ls; unplaced = length us };
       container = c;
-      kinds = ks ++ replicate (mostKinds - length ks) noKind;
-      lines = ls ++ replicate (mostLines - length ls) noLine;
+      kinds = ks ++ replicate (mostKinds - length ks) blankKind;
+      lines = ls ++ replicate (mostLines - length ls) blankLine;
       unplaced = us ++ replicate (mostUnplaced - length us) 0;
     }
 
@@ -92,9 +95,19 @@ one x = sheetOf ten (seven 1 ∷ []) (sevenAt 0 x ∷ []) []
 abbrev pub listing : ℕ → List ℕ → Sheet
 listing n us = sheetOf ten (seven n ∷ []) (sevenAt 0 none ∷ []) us
 
--- 01: "Spacing 1; kind 7, fixed 4-cube, quantity 2; lines (7, 0) at (0,0,0) and (7, 0) at (4.5,0,0), index and bin 0; nothing unplaced."
+-- spacing 1; kind 7, a fixed 4-cube, quantity 2; lines (7, 0) at (0,0,0) and (7, 0) at (4.5,0,0), index and bin 0; nothing unplaced
 abbrev pub worked : Sheet
 worked = sheetOf (case (cube (whole 10)) (whole 1)) (seven 2 ∷ []) (sevenAt 0 none ∷ sevenAt 0 (decimal 9 2) ∷ []) []
+
+-- ---- what the checker answers: room for four findings is lent, and each cell holds 9 before
+abbrev pub lent : List ℕ
+lent = replicate 20 9
+
+-- the sheet is accepted, so many findings are told, and the cells hold these words and behind them what they held
+pub record Answered (s : Sheet) (found : ℕ) (cells : List ℕ) : Type 0 where
+  pub accepted : sheetRefusal s ≡ 0
+  pub told : checkedOf s lent ≡ record { refused = 0; count = found }
+  pub written : cellsOf s lent ≡ cells
 
 -- ---- check_pair: a box between two corners
 abbrev pub box : List Float → List Float → Extent

@@ -1,4 +1,4 @@
--- What a file is accepted as: its refusal, and where it has none the counts of its sections and where its lines start and end.
+-- What a file is accepted as: its refusal, and where it has none the counts of its sections and where its lines start and end. RULES: Refusals
 use mathlib.Core.Path.{_≡_, refl, sym, ap, _∙_}
 use mathlib.Core.Bool.{Bool, true, false, not, cond}
 use mathlib.Core.List.{List}
@@ -48,9 +48,11 @@ answer-taken f e = rw e
 pub readable : (f : List ℕ) → refusalOf f ≡ 0 → Readable f
 unfolding refusalOf sheetRefusal
 readable f h =
+    let over = overCount (sheetOf f .many) in
+    let wrong = not (rightShape f) in
     record {
-      shape = not-true-of (rightShape f) (when-none (not (rightShape f)) 0 (or-else-first (when (not (rightShape f)) 1) _ h));
-      counts-right = rw many-is (when-none (overCount (sheetOf f .many)) 1 (or-else-first (when (overCount (sheetOf f .many)) 2) _ (or-else-second (when (not (rightShape f)) 1) _ h)));
+      shape = not-true-of (rightShape f) (when-none wrong 0 (or-else-first (when wrong 1) _ h));
+      counts-right = rw many-is (when-none over 1 (or-else-first (when over 2) _ (or-else-second (when wrong 1) _ h)));
     }
 
 pub refusal-is : (f : List ℕ) → acceptOf f .refused ≡ refusalOf f

@@ -1,4 +1,4 @@
--- The refusal of a sheet in the parts that a test of the bytes works out one after another.
+-- The refusal of a sheet in the parts that a test of the bytes works out one after another. RULES: Refusals
 use mathlib.Core.Path.{_≡_, refl, sym, ap, _∙_}
 use mathlib.Core.Bool.{Bool, true, false, not, _||_}
 use mathlib.Core.List.{List}

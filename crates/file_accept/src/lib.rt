@@ -8,8 +8,6 @@ ghost use Rattle.file_read.specs.Reading.{sheetOf};
 ghost use Rattle.file_read.specs.Records.{Readable};
 ghost use Rattle.file_accept.specs.Parts.{misplaced, kindsRefusal};
 ghost use Rattle.file_accept.specs.Accept.{refusedBy, acceptOf};
-ghost use Rattle.lists.specs.Table.{filled};
-ghost use Rattle.file_accept.specs.Columns.{columnOf, idOf, xOf, yOf, zOf, linesWithin};
 use file_read::records;
 use sheet::Counts;
 
@@ -122,33 +120,5 @@ pub fn accept(f: &[u8]) -> Accepted
         unplaced: many.unplaced,
         start,
         end: s.end,
-    }
-}
-
-// The ids and near corners of n lines that start there into lent columns: a cell for each line, the others as they were. More lines
-// than there can be are none.
-pub fn line_columns(
-    f: &[u8],
-    start: usize,
-    n: usize,
-    ids: &mut [u32; domain::MOST_LINES],
-    xs: &mut [f64; domain::MOST_LINES],
-    ys: &mut [f64; domain::MOST_LINES],
-    zs: &mut [f64; domain::MOST_LINES],
-)
-    ensures { λ r. ⌜ (now (ids .exit) ≡ filled (now (ids .entry)) (columnOf idOf (now (f .entry)) start) (linesWithin n)) × (now (xs .exit) ≡ filled (now (xs .entry)) (columnOf xOf (now (f .entry)) start) (linesWithin n)) × (now (ys .exit) ≡ filled (now (ys .entry)) (columnOf yOf (now (f .entry)) start) (linesWithin n)) × (now (zs .exit) ≡ filled (now (zs .entry)) (columnOf zOf (now (f .entry)) start) (linesWithin n)) ⌝ }
-{
-    if domain::MOST_LINES < n {
-        return;
-    }
-    let mut i = 0;
-    while i < n {
-        let line = records::line_in(f, start, i);
-        let at = line.at;
-        ids[i] = line.id;
-        xs[i] = at[0];
-        ys[i] = at[1];
-        zs[i] = at[2];
-        i += 1;
     }
 }

@@ -13,11 +13,14 @@ use Rattle.sheet.specs.declared.Line.{Line}
 use Rattle.sheet.specs.declared.Sheet.{Sheet}
 use Rattle.sheet.specs.Sheets.{kindAt, lineAt, unplacedAt}
 use Rattle.lists.specs.Below.{allBelow}
-use Rattle.file_read.specs.Bytes.{le2, le4, part}
-use Rattle.file_read.specs.Form.{blockBytes, kindBytes, lineBytes, idBytes, trailerBytes, form}
-use Rattle.file_write.specs.Writing.{floatOut, threeOut, containerOut, kindOut, lineOut, kindsOut, linesOut, idsOut, trailerOut, linesFrom, unplacedFrom, trailerFrom, fileOf}
-use Rattle.file_write.specs.Stores.{le4-length, container-length, kind-length, line-length, trailer-length, kinds-length, lines-length, ids-length}
-use Rattle.file_laws.specs.Parts.{Bytes, part-first, part-second, part-all, bytes-nil, bytes-cons, bytes-append, bytes-bytes, le2-is, le4-is, le8-is}
+use Rattle.file_bytes.specs.Bytes.{word, u32Out, part}
+use Rattle.file_bytes.specs.Layout.{fieldsOut, bytes-length}
+use Rattle.file_read.specs.Form.{blockFields, kindFields, lineFields, trailerFields, blockBytes, kindBytes, lineBytes, idBytes, trailerBytes}
+use Rattle.file_write.specs.Writing.{containerNumbers, kindNumbers, lineNumbers, trailerNumbers, containerOut, kindOut, lineOut, trailerOut}
+use Rattle.file_write.specs.Writing.{kindsOut, linesOut, idsOut, linesFrom, unplacedFrom, trailerFrom, fileOf}
+use Rattle.file_write.specs.Stores.{container-length, kind-length, line-length, trailer-length, kinds-length, lines-length, ids-length}
+use Rattle.file_laws.specs.Parts.{Bytes, part-first, part-second, part-all, bytes-append, bytes-bytes}
+use Rattle.file_laws.specs.Fields.{fields-bytes}
 use Rattle.file_laws.specs.Sections.{all-bytes, all-part}
 
 -- ---- bytes
@@ -30,60 +33,24 @@ infixr 40 _then_
 _then_ : {a b : List ℕ} → Fine a → Fine b → Fine (a ++ b)
 _then_ {a} {b} h k = record { all = bytes-append a b (h .all) (k .all) }
 
-two : (v : ℕ) → Fine (le2 v)
-two v = record { all = rw le2-is (bytes-bytes 2 v) }
-
-four : (v : ℕ) → Fine (le4 v)
-four v = record { all = rw le4-is (bytes-bytes 4 v) }
-
-float : (v : Float) → Fine (floatOut v)
-unfolding floatOut
-float v = record { all = rw le8-is (bytes-bytes 8 (toBits binary64 v)) }
-
-three : (v : List Float) → Fine (threeOut v)
-unfolding threeOut
-three v = float (x v) then float (y v) then float (z v)
-
-pair : (a b : ℕ) → a < 256 → b < 256 → Fine (a ∷ b ∷ [])
-pair a b h k = record { all = bytes-cons a (b ∷ []) h (bytes-cons b [] k bytes-nil) }
-
-container : (c : Container) → Fine (containerOut c)
-unfolding containerOut
-container c = three (c .size) then float (c .margin) then float (c .spacing) then float (c .limit)
-
-kind : (k : Kind) → k .rule < 256 → k .massed < 256 → Fine (kindOut k)
-unfolding kindOut
-kind k r f = four (k .id) then four (k .quantity) then three (k .size) then float (k .mass) then pair (k .rule) (k .massed) r f then two (k .filler)
-
-line : (l : Line) → Fine (lineOut l)
-unfolding lineOut
-line l = four (l .id) then four (l .instance) then four (l .orientation) then four (l .bin) then three (l .at)
-
-ending : (m : Counts) → Fine (trailerOut m)
-unfolding trailerOut
-ending m =
-    four blockBytes
-    then four (linesFrom m)
-    then four (unplacedFrom m)
-    then four (trailerFrom m)
-    then two form
-    then pair 76 83 (omega arith) (omega arith)
+fields : (ws vs : List ℕ) → Fine (fieldsOut ws vs)
+fields ws vs = record { all = fields-bytes ws vs }
 
 section : (g : ℕ → List ℕ) (n : ℕ) → ((k : ℕ) → k < n → Fine (g k)) → Fine (allBelow g n)
 section g n h = record { all = all-bytes g n (λ k l. h k l .all) }
 
--- the file is bytes where the rules and mass flags are
-pub file-bytes : (s : Sheet) → ((k : ℕ) → k < s .many .kinds → (kindAt s k .rule < 256) × (kindAt s k .massed < 256)) → Bytes (fileOf s)
-unfolding fileOf kindsOut linesOut idsOut
-file-bytes s h = whole .all
+-- the file is bytes
+pub file-bytes : (s : Sheet) → Bytes (fileOf s)
+unfolding fileOf kindsOut linesOut idsOut containerOut kindOut lineOut trailerOut
+file-bytes s = whole .all
   where
     whole : Fine (fileOf s)
     whole =
-        container (s .container)
-        then section (λ k. kindOut (kindAt s k)) (s .many .kinds) (λ k l. kind (kindAt s k) (h k l .0) (h k l .1))
-        then section (λ i. lineOut (lineAt s i)) (s .many .lines) (λ i l. line (lineAt s i))
-        then section (λ i. le4 (unplacedAt s i)) (s .many .unplaced) (λ i l. four (unplacedAt s i))
-        then ending (s .many)
+        fields blockFields (containerNumbers (s .container))
+        then section (λ k. kindOut (kindAt s k)) (s .many .kinds) (λ k l. fields kindFields (kindNumbers (kindAt s k)))
+        then section (λ i. lineOut (lineAt s i)) (s .many .lines) (λ i l. fields lineFields (lineNumbers (lineAt s i)))
+        then section (λ i. u32Out (unplacedAt s i)) (s .many .unplaced) (λ i l. record { all = bytes-bytes word (unplacedAt s i) })
+        then fields trailerFields (trailerNumbers (s .many))
 
 -- ---- places
 
@@ -120,15 +87,18 @@ module _ (s : Sheet) where
 
   past-kinds : (p q w : ℕ) → q ≡ linesFrom (s .many) + p → part (fileOf s) q w ≡ part (lines ++ (ids ++ end)) p w
   past-kinds p q w e =
-      past-block (s .many .kinds * kindBytes + p) q w (omega arith) ∙ behind kinds _ (s .many .kinds * kindBytes) p _ w (kinds-length (s .kinds) (s .many .kinds)) refl
+      past-block (s .many .kinds * kindBytes + p) q w (omega arith)
+      ∙ behind kinds _ (s .many .kinds * kindBytes) p _ w (kinds-length (s .kinds) (s .many .kinds)) refl
 
   past-lines : (p q w : ℕ) → q ≡ unplacedFrom (s .many) + p → part (fileOf s) q w ≡ part (ids ++ end) p w
   past-lines p q w e =
-      past-kinds (s .many .lines * lineBytes + p) q w (omega arith) ∙ behind lines _ (s .many .lines * lineBytes) p _ w (lines-length (s .lines) (s .many .lines)) refl
+      past-kinds (s .many .lines * lineBytes + p) q w (omega arith)
+      ∙ behind lines _ (s .many .lines * lineBytes) p _ w (lines-length (s .lines) (s .many .lines)) refl
 
   past-ids : (p q w : ℕ) → q ≡ trailerFrom (s .many) + p → part (fileOf s) q w ≡ part end p w
   past-ids p q w e =
-      past-lines (s .many .unplaced * idBytes + p) q w (omega arith) ∙ behind ids _ (s .many .unplaced * idBytes) p _ w (ids-length (s .unplaced) (s .many .unplaced)) refl
+      past-lines (s .many .unplaced * idBytes + p) q w (omega arith)
+      ∙ behind ids _ (s .many .unplaced * idBytes) p _ w (ids-length (s .unplaced) (s .many .unplaced)) refl
 
   pub kind-there : (k : ℕ) → k < s .many .kinds → part (fileOf s) (blockBytes + k * kindBytes) kindBytes ≡ kindOut (kindAt s k)
   unfolding kindsOut
@@ -144,12 +114,12 @@ module _ (s : Sheet) where
       ∙ part-first lines _ (i * lineBytes) lineBytes (omega (arith, lines-length (s .lines) (s .many .lines)))
       ∙ all-part (λ j. lineOut (lineAt s j)) lineBytes (s .many .lines) i (λ j. line-length (lineAt s j)) l
 
-  pub id-there : (i : ℕ) → i < s .many .unplaced → part (fileOf s) (unplacedFrom (s .many) + i * idBytes) idBytes ≡ le4 (unplacedAt s i)
+  pub id-there : (i : ℕ) → i < s .many .unplaced → part (fileOf s) (unplacedFrom (s .many) + i * idBytes) idBytes ≡ u32Out (unplacedAt s i)
   unfolding idsOut
   id-there i l =
       past-lines (i * idBytes) (unplacedFrom (s .many) + i * idBytes) idBytes refl
       ∙ part-first ids _ (i * idBytes) idBytes (omega (arith, ids-length (s .unplaced) (s .many .unplaced)))
-      ∙ all-part (λ j. le4 (unplacedAt s j)) idBytes (s .many .unplaced) i (λ j. le4-length (unplacedAt s j)) l
+      ∙ all-part (λ j. u32Out (unplacedAt s j)) idBytes (s .many .unplaced) i (λ j. bytes-length word (unplacedAt s j)) l
 
   pub trailer-there : part (fileOf s) (trailerFrom (s .many)) trailerBytes ≡ trailerOut (s .many)
   trailer-there = past-ids 0 (trailerFrom (s .many)) trailerBytes (omega arith) ∙ part-all end trailerBytes (omega (arith, trailer-length (s .many)))

@@ -1,8 +1,6 @@
--- The load file, form 1: what the two calls answer, and that they undo each other.
-pub mod Bytes
-pub mod Reading
-pub mod Writing
+-- The load file, form 1: reading and writing undo each other.
 pub mod Parts
+pub mod Fields
 pub mod Sections
 pub mod Numbers
 pub mod ReadWrite
@@ -11,3 +9,4 @@ pub mod Typed
 pub mod Tidy
 pub mod WriteRead
 pub mod RoundTrip
+pub mod Planned

@@ -1,14 +1,12 @@
--- Laws on the parts of a list of bytes and on the numbers that stand there. Each law on numbers is stated once, for every width;
--- the two, four and eight bytes of `Bytes` are widths of it.
+-- Laws on the parts of a list of bytes and on the numbers that stand there, for every width.
 use Prim.Native.Nat.{ℕ, zero, suc, _+_, _*_, _/_, _%_, _^_, _≤_, _<_}
 use mathlib.Core.Path.{_≡_, refl, ap, _∙_}
 use mathlib.Core.List.{List, [], _∷_, _++_, append-nil}
 use native.Mathlib.Nat.{pow-suc}
-use native.Mathlib.Numerals.{towards-suc}
 use native.Mathlib.Omega.{arith}
 use lib.ListN.{length, getD, take, drop, length-drop}
 use lib.Seq.{drop-cons, drop-drop, take-add, getD-take, getD-drop, drop-append-add, drop-append-le, take-append-le, take-all, take-take}
-use Rattle.file_read.specs.Bytes.{u16At, u32At, u64At, le2, le4, le8, part}
+use Rattle.file_bytes.specs.Bytes.{numberAt, bytesOf, part}
 
 -- each entry is a byte
 abbrev pub Bytes : List ℕ → Type 0
@@ -56,55 +54,6 @@ bytes-append (x ∷ a) b h k = bytes-cons x (a ++ b) (h 0) (bytes-append a b (λ
 
 -- ---- numbers of any width
 
--- the number in the w bytes from `at`, the lowest first
-unfoldable pub numberAt : ℕ → List ℕ → ℕ → ℕ
-numberAt zero s at = 0
-numberAt (suc w) s at = getD s at 0 + numberAt w s (suc at) * 256
-
--- the w bytes of a number, the lowest first
-unfoldable pub bytesOf : ℕ → ℕ → List ℕ
-bytesOf zero v = []
-bytesOf (suc w) v = v % 256 ∷ bytesOf w (v / 256)
-
-pub u16-is : (s : List ℕ) (at : ℕ) → u16At s at ≡ numberAt 2 s at
-unfolding u16At numberAt
-u16-is s at = simp towards-suc (omega arith)
-
-pub u32-is : (s : List ℕ) (at : ℕ) → u32At s at ≡ numberAt 4 s at
-unfolding u32At numberAt
-u32-is s at = simp towards-suc (omega arith)
-
-pub u64-is : (s : List ℕ) (at : ℕ) → u64At s at ≡ numberAt 8 s at
-unfolding u64At u32At numberAt
-u64-is s at = simp towards-suc (omega arith)
-
-pub le2-is : (v : ℕ) → le2 v ≡ bytesOf 2 v
-unfolding le2 bytesOf
-le2-is v = refl
-
-pub le4-is : (v : ℕ) → le4 v ≡ bytesOf 4 v
-unfolding le4 bytesOf
-le4-is v =
-    let c : v / 65536 % 256 ≡ v / 256 / 256 % 256 = omega arith in
-    let d : v / 16777216 % 256 ≡ v / 256 / 256 / 256 % 256 = omega arith in
-    rw (c, d)
-
--- what is added in whole 256s leaves the lowest byte
-same-byte : (a b q : ℕ) → a ≡ q * 256 + b → b % 256 ≡ a % 256
-same-byte a b q h = omega arith
-
-pub le8-is : (v : ℕ) → le8 v ≡ bytesOf 8 v
-unfolding le8 le4 bytesOf
-le8-is v =
-    let r = v % 4294967296 in
-    let q = v / 4294967296 in
-    let a : r % 256 ≡ v % 256 = same-byte v r (q * 16777216) (omega arith) in
-    let b : r / 256 % 256 ≡ v / 256 % 256 = same-byte (v / 256) (r / 256) (q * 65536) (omega arith) in
-    let c : r / 65536 % 256 ≡ v / 256 / 256 % 256 = same-byte (v / 256 / 256) (r / 65536) (q * 256) (omega arith) in
-    let d : r / 16777216 % 256 ≡ v / 256 / 256 / 256 % 256 = same-byte (v / 256 / 256 / 256) (r / 16777216) q (omega arith) in
-    let e : q ≡ v / 256 / 256 / 256 / 256 = omega arith in
-    rw (a, b, c, d, e) (ap (λ (l : List ℕ). v % 256 ∷ v / 256 % 256 ∷ v / 256 / 256 % 256 ∷ v / 256 / 256 / 256 % 256 ∷ l) (le4-is (v / 256 / 256 / 256 / 256)))
-
 -- the bytes of a number are bytes
 pub bytes-bytes : (w v : ℕ) → Bytes (bytesOf w v)
 unfolding bytesOf
@@ -151,26 +100,6 @@ number-part (suc w) s p n i h =
     let e : suc (p + i) ≡ p + suc i = omega arith in
     rw (part-at s p n i (omega arith), e, number-part w s p n (suc i) (omega arith))
 
--- ---- the same at the widths of `Bytes`
-
-pub le2-u16 : (s : List ℕ) (at : ℕ) → Bytes s → at + 2 ≤ length s → le2 (u16At s at) ≡ part s at 2
-le2-u16 s at h l = rw (le2-is, u16-is) (bytes-number 2 s at h l)
-
-pub le4-u32 : (s : List ℕ) (at : ℕ) → Bytes s → at + 4 ≤ length s → le4 (u32At s at) ≡ part s at 4
-le4-u32 s at h l = rw (le4-is, u32-is) (bytes-number 4 s at h l)
-
-pub le8-u64 : (s : List ℕ) (at : ℕ) → Bytes s → at + 8 ≤ length s → le8 (u64At s at) ≡ part s at 8
-le8-u64 s at h l = rw (le8-is, u64-is) (bytes-number 8 s at h l)
-
-pub u16-below : (s : List ℕ) (at : ℕ) → Bytes s → u16At s at < 2 ^ 16
-u16-below s at h = rw u16-is (number-below 2 s at h)
-
-pub u32-below : (s : List ℕ) (at : ℕ) → Bytes s → u32At s at < 2 ^ 32
-u32-below s at h = rw u32-is (number-below 4 s at h)
-
-pub u64-below : (s : List ℕ) (at : ℕ) → Bytes s → u64At s at < 2 ^ 64
-u64-below s at h = rw u64-is (number-below 8 s at h)
-
 -- ---- what stands at a place
 
 -- a part of a part
@@ -189,12 +118,3 @@ number-there w s at v h l =
     let e : at + 0 ≡ at = omega arith in
     let m : 0 + w ≤ w = omega arith in
     (rw e at (number-part w s at w 0 m)) ∙ rw h (rw append-nil at (number-bytes w v [] l))
-
-pub u16-there : (s : List ℕ) (at v : ℕ) → part s at 2 ≡ le2 v → v < 2 ^ 16 → u16At s at ≡ v
-u16-there s at v h l = rw u16-is (number-there 2 s at v (h ∙ le2-is v) l)
-
-pub u32-there : (s : List ℕ) (at v : ℕ) → part s at 4 ≡ le4 v → v < 2 ^ 32 → u32At s at ≡ v
-u32-there s at v h l = rw u32-is (number-there 4 s at v (h ∙ le4-is v) l)
-
-pub u64-there : (s : List ℕ) (at v : ℕ) → part s at 8 ≡ le8 v → v < 2 ^ 64 → u64At s at ≡ v
-u64-there s at v h l = rw u64-is (number-there 8 s at v (h ∙ le8-is v) l)

@@ -1,11 +1,10 @@
--- 01: "Reading then writing gives the same bytes." For every accepted file the sheet that it says is written as that file.
-use Prim.Native.Nat.{ℕ, suc, _+_, _*_, _≤_, _<_}
+-- Reading then writing gives the same bytes: for every accepted file the sheet that it says is written as that file. RULES: Load file
+use Prim.Native.Nat.{ℕ, _+_, _*_, _≤_, _<_}
 use mathlib.Core.Path.{_≡_, refl, sym, ap, _∙_}
 use mathlib.Core.Bool.{not}
 use mathlib.Core.List.{List, [], _∷_}
 use native.Mathlib.Omega.{arith}
 use lib.ListN.{length, getD}
-use lib.Seq.{drop-cons}
 use lib.Ieee.{binary64}
 use lib.Ieee.Bits.{toBits-ofBits}
 use Rattle.domain.specs.Bounds.{mostKinds, mostLines, mostUnplaced}
@@ -15,78 +14,70 @@ use Rattle.domain.specs.Laws.{or-else-first, or-else-second, when-none}
 use Rattle.sheet.specs.declared.Counts.{Counts}
 use Rattle.sheet.specs.Sheets.{noKind, noLine, sheetRefusal}
 use Rattle.sheet.specs.Accepted.{Accepted, accepted}
-use Rattle.file_read.specs.Bytes.{u32At, u64At, le2, le4, part}
-use Rattle.file_read.specs.Form.{blockBytes, kindBytes, lineBytes, idBytes, trailerBytes, form, trailer, linesStart, unplacedStart, trailerStart, rightShape, countsOf}
-use Rattle.file_read.specs.Reading.{f64At, threeAt, containerFrom, kindFrom, lineFrom, kindPlace, kindsOf, linesOf, idsOf, sheetOf, refusalOf}
-use Rattle.file_write.specs.Writing.{floatOut, threeOut, containerOut, kindOut, lineOut, kindsOut, linesOut, idsOut, trailerOut, linesFrom, unplacedFrom, trailerFrom, fileOf}
-use Rattle.file_laws.specs.Parts.{Bytes, joined, part-all, le2-u16, le4-u32, le8-u64, u64-below}
+use Rattle.file_bytes.specs.Bytes.{word, float, u64At, f64At, u32Out, part}
+use Rattle.file_bytes.specs.Layout.{fieldsAt}
+use Rattle.file_read.specs.Form.{blockFields, kindFields, lineFields, trailerFields, blockBytes, kindBytes, lineBytes, idBytes, trailerBytes}
+use Rattle.file_read.specs.Form.{trailer, trailerOf, linesStart, unplacedStart, trailerStart, rightShape, countsOf}
+use Rattle.file_read.specs.Reading.{containerOf, kindOf, lineOf, containerFrom, kindFrom, lineFrom, kindPlace, kindsOf, linesOf, idsOf, sheetOf, refusalOf}
+use Rattle.file_write.specs.Writing.{bitsOf, containerNumbers, kindNumbers, lineNumbers, trailerNumbers, containerOut, kindOut, lineOut, trailerOut}
+use Rattle.file_write.specs.Writing.{kindsOut, linesOut, idsOut, linesFrom, unplacedFrom, trailerFrom, fileOf}
+use Rattle.file_laws.specs.Parts.{Bytes, joined, part-all, number-below, bytes-number}
+use Rattle.file_laws.specs.Fields.{record-back}
 use Rattle.file_read.specs.Tables.{kinds-at, lines-at, ids-at}
 use Rattle.file_laws.specs.Sections.{all-is-part}
 use Rattle.file_read.specs.Shaped.{Shaped, shaped}
 use Rattle.file_laws.specs.Numbers.{IsNumber, Numbers, ContainerNumbers, KindNumbers, container-numbers, kind-numbers, line-numbers}
 
--- ---- records: what was read from a place is written as the bytes there
+-- ---- records: the numbers of what was read are those that stand there, so it is written as the bytes there
+
+seven : {a b c d e g h a′ b′ c′ d′ e′ g′ h′ : ℕ} → a ≡ a′ → b ≡ b′ → c ≡ c′ → d ≡ d′ → e ≡ e′ → g ≡ g′ → h ≡ h′
+    → a ∷ b ∷ c ∷ d ∷ e ∷ g ∷ h ∷ [] ≡ a′ ∷ b′ ∷ c′ ∷ d′ ∷ e′ ∷ g′ ∷ h′ ∷ []
+seven ea eb ec ed ee eg eh = rw (ea, eb, ec, ed, ee, eg, eh)
 
 module _ (f : List ℕ) (bytes : Bytes f) where
-  float-back : (p : ℕ) → p + 8 ≤ length f → IsNumber (f64At f p) → floatOut (f64At f p) ≡ part f p 8
-  unfolding floatOut f64At
-  float-back p l n = rw (toBits-ofBits binary64 (u64At f p) (u64-below f p bytes) n) (le8-u64 f p bytes l)
+  -- the bits of a float that is read there
+  bits-back : (p : ℕ) → IsNumber (f64At f p) → bitsOf (f64At f p) ≡ u64At f p
+  bits-back p n = toBits-ofBits binary64 (u64At f p) (number-below float f p bytes) n
 
-  three-back : (p : ℕ) → p + 24 ≤ length f → Numbers (threeAt f p) → threeOut (threeAt f p) ≡ part f p 24
-  unfolding threeOut threeAt
-  three-back p l n =
-      joined f p 8 (p + 8) 16 (floatOut (f64At f p)) _ refl (float-back p (omega arith) (n .wide))
-      (joined f (p + 8) 8 (p + 16) 8 (floatOut (f64At f (p + 8))) _ (omega arith) (float-back (p + 8) (omega arith) (n .deep))
-      (float-back (p + 16) (omega arith) (n .high)))
+  container-same : ContainerNumbers (containerFrom f) → containerNumbers (containerFrom f) ≡ fieldsAt blockFields f 0 0
+  unfolding containerNumbers containerFrom containerOf fieldsAt
+  container-same n =
+      rw (bits-back _ (n .size .wide), bits-back _ (n .size .deep), bits-back _ (n .size .high))
+      (rw (bits-back _ (n .margin), bits-back _ (n .spacing), bits-back _ (n .limit)))
+
+  kind-same : (p : ℕ) → KindNumbers (kindFrom f p) → kindNumbers (kindFrom f p) ≡ fieldsAt kindFields f p 0
+  unfolding kindNumbers kindFrom kindOf fieldsAt
+  kind-same p n = rw (bits-back _ (n .size .wide), bits-back _ (n .size .deep), bits-back _ (n .size .high), bits-back _ (n .mass))
+
+  line-same : (p : ℕ) → Numbers (lineFrom f p .at) → lineNumbers (lineFrom f p) ≡ fieldsAt lineFields f p 0
+  unfolding lineNumbers lineFrom lineOf fieldsAt
+  line-same p n = rw (bits-back _ (n .wide), bits-back _ (n .deep), bits-back _ (n .high))
 
   container-back : blockBytes ≤ length f → ContainerNumbers (containerFrom f) → containerOut (containerFrom f) ≡ part f 0 blockBytes
-  unfolding containerOut containerFrom
-  container-back l n =
-      joined f 0 24 24 24 (threeOut (threeAt f 0)) _ refl (three-back 0 (omega arith) (n .size))
-      (joined f 24 8 32 16 (floatOut (f64At f 24)) _ refl (float-back 24 (omega arith) (n .margin))
-      (joined f 32 8 40 8 (floatOut (f64At f 32)) _ refl (float-back 32 (omega arith) (n .spacing)) (float-back 40 l (n .limit))))
-
-  -- two single bytes: the rule and the mass flag, and a file's last two
-  two-back : (p q : ℕ) → q ≡ suc p → p + 2 ≤ length f → getD f p 0 ∷ getD f q 0 ∷ [] ≡ part f p 2
-  two-back p q e l =
-      let m : p < length f = omega arith in
-      let n : suc p < length f = omega arith in
-      rw (e, drop-cons f p 0, drop-cons f (suc p) 0)
+  unfolding containerOut
+  container-back l n = rw (container-same n) (record-back blockFields f 0 bytes l)
 
   kind-back : (p : ℕ) → p + kindBytes ≤ length f → KindNumbers (kindFrom f p) → kindOut (kindFrom f p) ≡ part f p kindBytes
-  unfolding kindOut kindFrom
-  kind-back p l n =
-      joined f p 4 (p + 4) 40 (le4 (u32At f p)) _ refl (le4-u32 f p bytes (omega arith))
-      (joined f (p + 4) 4 (p + 8) 36 (le4 (u32At f (p + 4))) _ (omega arith) (le4-u32 f (p + 4) bytes (omega arith))
-      (joined f (p + 8) 24 (p + 32) 12 (threeOut (threeAt f (p + 8))) _ (omega arith) (three-back (p + 8) (omega arith) (n .size))
-      (joined f (p + 32) 8 (p + 40) 4 (floatOut (f64At f (p + 32))) _ (omega arith) (float-back (p + 32) (omega arith) (n .mass))
-      (joined f (p + 40) 2 (p + 42) 2 (getD f (p + 40) 0 ∷ getD f (p + 41) 0 ∷ []) _ (omega arith) (two-back (p + 40) (p + 41) (omega arith) (omega arith))
-      (le2-u16 f (p + 42) bytes (omega arith))))))
+  unfolding kindOut
+  kind-back p l n = rw (kind-same p n) (record-back kindFields f p bytes l)
 
   line-back : (p : ℕ) → p + lineBytes ≤ length f → Numbers (lineFrom f p .at) → lineOut (lineFrom f p) ≡ part f p lineBytes
-  unfolding lineOut lineFrom
-  line-back p l n =
-      joined f p 4 (p + 4) 36 (le4 (u32At f p)) _ refl (le4-u32 f p bytes (omega arith))
-      (joined f (p + 4) 4 (p + 8) 32 (le4 (u32At f (p + 4))) _ (omega arith) (le4-u32 f (p + 4) bytes (omega arith))
-      (joined f (p + 8) 4 (p + 12) 28 (le4 (u32At f (p + 8))) _ (omega arith) (le4-u32 f (p + 8) bytes (omega arith))
-      (joined f (p + 12) 4 (p + 16) 24 (le4 (u32At f (p + 12))) _ (omega arith) (le4-u32 f (p + 12) bytes (omega arith))
-      (three-back (p + 16) (omega arith) n))))
+  unfolding lineOut
+  line-back p l n = rw (line-same p n) (record-back lineFields f p bytes l)
 
-  trailer-back : Shaped f → trailerOut (countsOf f) ≡ part f (trailer f) trailerBytes
-  unfolding trailerOut
-  trailer-back h =
-      let p = trailer f in
-      let end : p + 20 ≤ length f = omega (arith, h .long) in
+  -- the numbers that a trailer has to have are those of the trailer of a file of the right shape
+  trailer-same : Shaped f → trailerNumbers (countsOf f) ≡ trailerOf f
+  unfolding trailerNumbers trailerOf fieldsAt
+  trailer-same h =
+      let p = h .placed-right in
       let l : linesFrom (countsOf f) ≡ linesStart f = h .kinds-end in
       let u : unplacedFrom (countsOf f) ≡ unplacedStart f = omega (arith, h) in
       let t : trailerFrom (countsOf f) ≡ trailerStart f = omega (arith, h) in
-      rw (t, u, l)
-      (joined f p 4 (p + 4) 16 (le4 blockBytes) _ refl (rw (← h .placed-right .first) (le4-u32 f p bytes (omega arith)))
-      (joined f (p + 4) 4 (p + 8) 12 (le4 (linesStart f)) _ (omega arith) (le4-u32 f (p + 4) bytes (omega arith))
-      (joined f (p + 8) 4 (p + 12) 8 (le4 (unplacedStart f)) _ (omega arith) (le4-u32 f (p + 8) bytes (omega arith))
-      (joined f (p + 12) 4 (p + 16) 4 (le4 (trailerStart f)) _ (omega arith) (le4-u32 f (p + 12) bytes (omega arith))
-      (joined f (p + 16) 2 (p + 18) 2 (le2 form) _ (omega arith) (rw (← h .placed-right .version) (le2-u16 f (p + 16) bytes (omega arith)))
-      (rw (← h .placed-right .letter, ← h .placed-right .letter′) (two-back (p + 18) (p + 19) (omega arith) (omega arith))))))))
+      seven (sym (p .first)) l u t (sym (p .version)) (sym (p .letter)) (sym (p .letter′))
+
+  trailer-back : Shaped f → trailerOut (countsOf f) ≡ part f (trailer f) trailerBytes
+  unfolding trailerOut trailerOf
+  trailer-back h = rw (trailer-same h) (record-back trailerFields f (trailer f) bytes (omega (arith, h .long)))
 
 -- ---- sections
 
@@ -113,10 +104,10 @@ module _ (f : List ℕ) (bytes : Bytes f) where
 
   ids-back : (start n : ℕ) → n ≤ mostUnplaced → start + n * idBytes ≤ length f → idsOut (idsOf f start n) n ≡ part f start (n * idBytes)
   unfolding idsOut
-  ids-back start n m r = all-is-part (λ i. le4 (getD (idsOf f start n) i 0)) f start idBytes n one
+  ids-back start n m r = all-is-part (λ i. u32Out (getD (idsOf f start n) i 0)) f start idBytes n one
     where
-      one : (i : ℕ) → i < n → le4 (getD (idsOf f start n) i 0) ≡ part f (start + i * idBytes) idBytes
-      one i l = rw (ids-at f start n i m l) (le4-u32 f (start + i * idBytes) bytes (omega arith))
+      one : (i : ℕ) → i < n → u32Out (getD (idsOf f start n) i 0) ≡ part f (start + i * idBytes) idBytes
+      one i l = rw (ids-at f start n i m l) (bytes-number word f (start + i * idBytes) bytes (omega arith))
 
 -- ---- the file
 
@@ -145,11 +136,11 @@ sections m = blockBytes + (m .kinds * kindBytes + (m .lines * lineBytes + (m .un
 
 -- the five sections of an accepted file are its own bytes
 module _ (f : List ℕ) (bytes : Bytes f) (a : AcceptedFile f) where
-  block-is : containerOut (containerFrom f) ≡ part f 0 blockBytes
+  pub block-is : containerOut (containerFrom f) ≡ part f 0 blockBytes
   unfolding sheetOf
   block-is = container-back f bytes (omega (arith, a .shape)) (container-numbers (containerFrom f) (a .sheet .container-right))
 
-  kinds-are : kindsOut (kindsOf f (countsOf f .kinds)) (countsOf f .kinds) ≡ part f blockBytes (countsOf f .kinds * kindBytes)
+  pub kinds-are : kindsOut (kindsOf f (countsOf f .kinds)) (countsOf f .kinds) ≡ part f blockBytes (countsOf f .kinds * kindBytes)
   unfolding sheetOf
   kinds-are =
       kinds-back f bytes (countsOf f .kinds) (a .sheet .few-of .kinds) (omega (arith, a .shape))

@@ -1,4 +1,4 @@
--- The reading call and the writing call undo each other: 01's "Reading then writing gives the same bytes", and the other way round.
+-- The reading call and the writing call undo each other, whichever comes first. RULES: Load file
 use Prim.Native.Nat.{ℕ, _≤_}
 use mathlib.Core.Path.{_≡_, refl, sym, ap, _∙_}
 use mathlib.Core.Bool.{Bool, true, false, cond}
@@ -31,7 +31,8 @@ read-is : (f : List ℕ) → refusalOf f ≡ 0 → readOf f ≡ record { refused
 unfolding readOf
 read-is f h = rw h
 
-written-is : (s : Sheet) (lent : ℕ) → sheetRefusal s ≡ 0 → fileLength (s .many) ≤ lent → writtenOf s lent ≡ record { refused = 0; length = fileLength (s .many) }
+written-is : (s : Sheet) (lent : ℕ) → sheetRefusal s ≡ 0 → fileLength (s .many) ≤ lent
+    → writtenOf s lent ≡ record { refused = 0; length = fileLength (s .many) }
 unfolding writtenOf
 written-is s lent h l = rw (h, le-leb (fileLength (s .many)) lent l)
 

@@ -7,7 +7,7 @@ use native.Mathlib.Nat.{eq-or-lt-of-le, le-of-suc-le-suc, not-suc-le-zero, suc-m
 use native.Mathlib.Omega.{arith}
 use lib.ListN.{length}
 use Rattle.lists.specs.Below.{allBelow, fewer}
-use Rattle.file_read.specs.Bytes.{part}
+use Rattle.file_bytes.specs.Bytes.{part}
 use Rattle.file_write.specs.Stores.{all-length}
 use Rattle.file_laws.specs.Parts.{Bytes, joined, part-first, part-second, part-all, bytes-nil, bytes-append}
 

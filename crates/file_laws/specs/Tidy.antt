@@ -7,18 +7,17 @@ use mathlib.Core.List.{List}
 use native.Mathlib.Omega.{arith}
 use lib.ListN.{getD}
 use Rattle.domain.specs.Bounds.{mostKinds, mostLines, mostUnplaced}
-use Rattle.lists.specs.Below.{anyBelow, sumBelow}
 use Rattle.domain.specs.Refusals.{firstBelow}
 use Rattle.measures.specs.declared.Kind.{Kind}
 use Rattle.sheet.specs.declared.Sheet.{Sheet}
 use Rattle.sheet.specs.Sheets.{noKind, noLine, kindAt, lineAt, unplacedAt, sameId, kindFaultIn, quantityOf, lineFaultIn, sheetRefusal}
 use Rattle.sheet.specs.Accepted.{Few}
-use Rattle.file_read.specs.Bytes.{u32At, le4}
+use Rattle.file_bytes.specs.Bytes.{u32At, u32Out}
 use Rattle.file_read.specs.Form.{linesStart, unplacedStart, countsOf}
 use Rattle.lists.specs.Table.{filled, table}
 use Rattle.file_read.specs.Reading.{kindFrom, lineFrom, kindPlace, linePlace, idPlace, blankKind, blankLine, kindsOf, linesOf, idsOf, sheetOf}
 use Rattle.file_write.specs.Writing.{kindOut, lineOut, kindsOut, linesOut, idsOut, fileOf}
-use Rattle.lists.specs.Below.{all-same}
+use Rattle.lists.specs.Below.{fewer, any-same, all-same, sum-same}
 use Rattle.lists.specs.Table.{table-at, table-past, table-same, table-is}
 use Rattle.file_read.specs.Tables.{kinds-at, lines-at, ids-at}
 use Rattle.file_laws.specs.Typed.{Typed}
@@ -86,9 +85,12 @@ unfolding tidy sheetOf kindsOf linesOf idsOf
 read-tidy f few =
     let n = countsOf f in
     rw (
-      table-same blankKind mostKinds (λ k. getD (kindsOf f (n .kinds)) k noKind) (λ k. kindFrom f (kindPlace k)) (n .kinds) (λ k l. kinds-at f (n .kinds) k (few .kinds) l),
-      table-same blankLine mostLines (λ i. getD (linesOf f (linesStart f) (n .lines)) i noLine) (λ i. lineFrom f (linePlace f i)) (n .lines) (λ i l. lines-at f (linesStart f) (n .lines) i (few .lines) l),
-      table-same 0 mostUnplaced (λ i. getD (idsOf f (unplacedStart f) (n .unplaced)) i 0) (λ i. u32At f (idPlace f i)) (n .unplaced) (λ i l. ids-at f (unplacedStart f) (n .unplaced) i (few .unplaced) l),
+      table-same blankKind mostKinds (λ k. getD (kindsOf f (n .kinds)) k noKind) (λ k. kindFrom f (kindPlace k)) (n .kinds)
+          (λ k l. kinds-at f (n .kinds) k (few .kinds) l),
+      table-same blankLine mostLines (λ i. getD (linesOf f (linesStart f) (n .lines)) i noLine) (λ i. lineFrom f (linePlace f i)) (n .lines)
+          (λ i l. lines-at f (linesStart f) (n .lines) i (few .lines) l),
+      table-same 0 mostUnplaced (λ i. getD (idsOf f (unplacedStart f) (n .unplaced)) i 0) (λ i. u32At f (idPlace f i)) (n .unplaced)
+          (λ i l. ids-at f (unplacedStart f) (n .unplaced) i (few .unplaced) l),
     )
 
 -- ---- a sheet is written, and refused, by the records that count
@@ -99,24 +101,14 @@ tidy-file s few =
     rw (
       all-same (λ k. kindOut (kindAt (tidy s) k)) (λ k. kindOut (kindAt s k)) (s .many .kinds) (λ k l. ap kindOut (tidy-kind s few k l)),
       all-same (λ i. lineOut (lineAt (tidy s) i)) (λ i. lineOut (lineAt s i)) (s .many .lines) (λ i l. ap lineOut (tidy-line s few i l)),
-      all-same (λ i. le4 (unplacedAt (tidy s) i)) (λ i. le4 (unplacedAt s i)) (s .many .unplaced) (λ i l. ap le4 (tidy-id s few i l)),
+      all-same (λ i. u32Out (unplacedAt (tidy s) i)) (λ i. u32Out (unplacedAt s i)) (s .many .unplaced) (λ i l. ap u32Out (tidy-id s few i l)),
     )
 
 -- each fold sees only the first n
 first-same : (g h : ℕ → ℕ) (n : ℕ) → ((k : ℕ) → k < n → g k ≡ h k) → firstBelow g n ≡ firstBelow h n
 unfolding firstBelow
 first-same g h zero e = refl
-first-same g h (suc n) e = rw (first-same g h n (λ k l. e k (omega arith)), e n (omega arith))
-
-any-same : (p q : ℕ → Bool) (n : ℕ) → ((k : ℕ) → k < n → p k ≡ q k) → anyBelow p n ≡ anyBelow q n
-unfolding anyBelow
-any-same p q zero e = refl
-any-same p q (suc n) e = rw (any-same p q n (λ k l. e k (omega arith)), e n (omega arith))
-
-sum-same : (g h : ℕ → ℕ) (n : ℕ) → ((k : ℕ) → k < n → g k ≡ h k) → sumBelow g n ≡ sumBelow h n
-unfolding sumBelow
-sum-same g h zero e = refl
-sum-same g h (suc n) e = rw (sum-same g h n (λ k l. e k (omega arith)), e n (omega arith))
+first-same g h (suc n) e = rw (first-same g h n (fewer n e), e n (omega arith))
 
 fault-same : (a b : List Kind) (n : ℕ) → ((k : ℕ) → k < n → getD a k noKind ≡ getD b k noKind) → (k : ℕ) → k < n → kindFaultIn a k ≡ kindFaultIn b k
 unfolding kindFaultIn sameId

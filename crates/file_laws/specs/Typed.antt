@@ -1,7 +1,7 @@
 -- What the types of a sheet's fields promise of any sheet that a program holds.
 use Prim.Native.Nat.{ℕ, _+_, _^_, _<_}
 use mathlib.Core.Path.{_≡_, refl}
-use mathlib.Core.List.{List}
+use mathlib.Core.List.{List, [], _∷_}
 use native.Mathlib.Omega.{arith}
 use lib.Dec.{T}
 use lib.ListN.{length}
@@ -15,10 +15,12 @@ use Rattle.sheet.specs.declared.Line.{Line}
 use Rattle.sheet.specs.declared.Sheet.{Sheet}
 use Rattle.sheet.specs.Sheets.{noKind, noLine, kindAt, lineAt, unplacedAt}
 use Rattle.sheet.specs.Accepted.{Few}
-use Rattle.file_read.specs.Bytes.{u32At, u64At}
+use Rattle.file_bytes.specs.Bytes.{byte, half, word, u32At, u64At, f64At}
+use Rattle.file_bytes.specs.Layout.{fieldsAt}
 use Rattle.file_read.specs.Form.{countsOf}
-use Rattle.file_read.specs.Reading.{f64At, threeAt, containerFrom, kindFrom, lineFrom, kindPlace, linePlace, idPlace, blankKind, blankLine, kindsOf, linesOf, idsOf, sheetOf}
-use Rattle.file_laws.specs.Parts.{Bytes, u16-below, u32-below}
+use Rattle.file_read.specs.Reading.{containerOf, kindOf, lineOf, containerFrom, kindFrom, lineFrom, kindPlace, linePlace, idPlace}
+use Rattle.file_read.specs.Reading.{blankKind, blankLine, kindsOf, linesOf, idsOf, sheetOf}
+use Rattle.file_laws.specs.Parts.{Bytes, number-below}
 use Rattle.lists.specs.Table.{table-length, table-each}
 
 -- an f64
@@ -66,48 +68,54 @@ pub record Typed (s : Sheet) : Type 0 where
 -- ---- what a file says is such a sheet
 
 f64-held : (f : List ℕ) (p : ℕ) → Held (f64At f p)
-unfolding f64At
 f64-held f p = ofBits-fits binary64 (u64At f p)
 
-three-typed : (f : List ℕ) (p : ℕ) → TypedVector (threeAt f p)
-unfolding threeAt
-three-typed f p = record { three = refl; wide = f64-held f p; deep = f64-held f (p + 8); high = f64-held f (p + 16) }
+three-typed : (f : List ℕ) (p q r : ℕ) → TypedVector (f64At f p ∷ f64At f q ∷ f64At f r ∷ [])
+three-typed f p q r = record { three = refl; wide = f64-held f p; deep = f64-held f q; high = f64-held f r }
 
 blank-typed : TypedVector nowhere
 blank-typed = record { three = refl; wide = ofBits-fits binary64 0; deep = ofBits-fits binary64 0; high = ofBits-fits binary64 0 }
 
 container-typed : (f : List ℕ) → TypedContainer (containerFrom f)
-unfolding containerFrom
-container-typed f = record { size = three-typed f 0; margin = f64-held f 24; spacing = f64-held f 32; limit = f64-held f 40 }
+unfolding containerFrom containerOf fieldsAt
+container-typed f = record { size = three-typed f _ _ _; margin = f64-held f _; spacing = f64-held f _; limit = f64-held f _ }
 
 module _ (f : List ℕ) (bytes : Bytes f) where
   kind-typed : (p : ℕ) → TypedKind (kindFrom f p)
-  unfolding kindFrom
+  unfolding kindFrom kindOf fieldsAt
   kind-typed p =
       record {
-        id = u32-below f p bytes;
-        quantity = u32-below f (p + 4) bytes;
-        size = three-typed f (p + 8);
-        mass = f64-held f (p + 32);
-        rule = bytes (p + 40);
-        massed = bytes (p + 41);
-        filler = u16-below f (p + 42) bytes;
+        id = number-below word f _ bytes;
+        quantity = number-below word f _ bytes;
+        size = three-typed f _ _ _;
+        mass = f64-held f _;
+        rule = number-below byte f _ bytes;
+        massed = number-below byte f _ bytes;
+        filler = number-below half f _ bytes;
       }
 
   line-typed : (p : ℕ) → TypedLine (lineFrom f p)
-  unfolding lineFrom
+  unfolding lineFrom lineOf fieldsAt
   line-typed p =
       record {
-        id = u32-below f p bytes;
-        instance = u32-below f (p + 4) bytes;
-        orientation = u32-below f (p + 8) bytes;
-        bin = u32-below f (p + 12) bytes;
-        at = three-typed f (p + 16);
+        id = number-below word f _ bytes;
+        instance = number-below word f _ bytes;
+        orientation = number-below word f _ bytes;
+        bin = number-below word f _ bytes;
+        at = three-typed f _ _ _;
       }
 
 blank-kind-typed : TypedKind blankKind
 blank-kind-typed =
-    record { id = omega arith; quantity = omega arith; size = blank-typed; mass = ofBits-fits binary64 0; rule = omega arith; massed = omega arith; filler = omega arith }
+    record {
+      id = omega arith;
+      quantity = omega arith;
+      size = blank-typed;
+      mass = ofBits-fits binary64 0;
+      rule = omega arith;
+      massed = omega arith;
+      filler = omega arith;
+    }
 
 blank-line-typed : TypedLine blankLine
 blank-line-typed = record { id = omega arith; instance = omega arith; orientation = omega arith; bin = omega arith; at = blank-typed }
@@ -129,5 +137,5 @@ read-typed f bytes few =
           (λ i l. line-typed f bytes (linePlace f i));
       id =
           table-each 0 mostUnplaced (λ v. v < 2 ^ 32) (λ i. u32At f (idPlace f i)) (n .unplaced) 0 (few .unplaced) (omega arith)
-          (λ i l. u32-below f (idPlace f i) bytes);
+          (λ i l. number-below word f (idPlace f i) bytes);
     }

@@ -1,68 +1,103 @@
--- The shape of a load file, form 1: where its sections start, and when that is right.
+-- The layout of a load file, form 1, and its shape: where its sections start, and when that is right. RULES: Load file
 use Prim.Native.Nat.{ℕ, _+_, _-_, _*_, _/_, _%_}
 use mathlib.Core.Bool.{Bool, _&&_}
-use mathlib.Core.List.{List}
+use mathlib.Core.List.{List, [], _∷_}
 use lib.Dec.{leb, eqb}
 use lib.ListN.{length, getD}
 use Rattle.sheet.specs.declared.Counts.{Counts}
-use Rattle.file_read.specs.Bytes.{u16At, u32At}
+use Rattle.file_bytes.specs.Bytes.{byte, half, word, float}
+use Rattle.file_bytes.specs.Layout.{widthOf, fieldsAt}
 
--- 01: "Container block, 48 bytes", "Kinds, 44 bytes", "Lines, 40 bytes", "Unplaced ids, u32", "The trailer, 20 bytes"
+-- ---- each record's fields in turn, by their widths
+
+-- the container block: width, depth, height, margin, spacing, mass limit
+abbrev pub blockFields : List ℕ
+blockFields = float ∷ float ∷ float ∷ float ∷ float ∷ float ∷ []
+
+-- a kind: id, quantity; width, depth, height, mass; rule, mass flag, two zero bytes
+abbrev pub kindFields : List ℕ
+kindFields = word ∷ word ∷ float ∷ float ∷ float ∷ float ∷ byte ∷ byte ∷ half ∷ []
+
+-- a line: id, instance, orientation, bin; x, y, z
+abbrev pub lineFields : List ℕ
+lineFields = word ∷ word ∷ word ∷ word ∷ float ∷ float ∷ float ∷ []
+
+-- the trailer, which points back: the starts of the kinds, the lines, the unplaced ids and of itself; the form; the last two bytes
+abbrev pub trailerFields : List ℕ
+trailerFields = word ∷ word ∷ word ∷ word ∷ half ∷ byte ∷ byte ∷ []
+
+-- ---- their lengths
+
 abbrev pub blockBytes : ℕ
-blockBytes = 48
+blockBytes = widthOf blockFields
 
 abbrev pub kindBytes : ℕ
-kindBytes = 44
+kindBytes = widthOf kindFields
 
 abbrev pub lineBytes : ℕ
-lineBytes = 40
+lineBytes = widthOf lineFields
 
+-- an unplaced id is a word
 abbrev pub idBytes : ℕ
-idBytes = 4
+idBytes = word
 
 abbrev pub trailerBytes : ℕ
-trailerBytes = 20
+trailerBytes = widthOf trailerFields
 
--- 01: "the length is at most 60,000"
+-- the most bytes that a load file has
 abbrev pub mostBytes : ℕ
 mostBytes = 60000
 
--- 01: "form 1 (u16); bytes 76, 83"
+-- the number of the form, and the two bytes that end a load file
 abbrev pub form : ℕ
 form = 1
 
--- 01: "The trailer .. points back: starts of kinds (48), lines, unplaced, trailer (u32)"
+abbrev pub letterL : ℕ
+letterL = 76
+
+abbrev pub letterS : ℕ
+letterS = 83
+
+-- ---- the shape
+
+-- where the trailer is, and its numbers
 abbrev pub trailer : List ℕ → ℕ
 trailer f = length f - trailerBytes
 
+unfoldable pub trailerOf : List ℕ → List ℕ
+trailerOf f = fieldsAt trailerFields f (trailer f) 0
+
 abbrev pub kindsStart : List ℕ → ℕ
-kindsStart f = u32At f (trailer f)
+kindsStart f = getD (trailerOf f) 0 0
 
 abbrev pub linesStart : List ℕ → ℕ
-linesStart f = u32At f (trailer f + 4)
+linesStart f = getD (trailerOf f) 1 0
 
 abbrev pub unplacedStart : List ℕ → ℕ
-unplacedStart f = u32At f (trailer f + 8)
+unplacedStart f = getD (trailerOf f) 2 0
 
 abbrev pub trailerStart : List ℕ → ℕ
-trailerStart f = u32At f (trailer f + 12)
+trailerStart f = getD (trailerOf f) 3 0
 
--- 01: "the first start is 48, starts don't fall, .. the trailer start is length − 20, and form and last two bytes are these",
--- of a file of n bytes whose trailer has these four starts, this form and these last bytes
+-- of a file of n bytes whose trailer has these numbers: it is not too long, the kinds start behind the container block, no start is
+-- before an earlier one, the trailer stands at the end, and the form and the last bytes are these
 unfoldable pub placed : ℕ → ℕ → ℕ → ℕ → ℕ → ℕ → ℕ → ℕ → Bool
 placed n k l u t v a b =
     leb n mostBytes
-    && (eqb k blockBytes && (leb k l && (leb l u && (leb u t && (eqb t (n - trailerBytes) && (eqb v form && (eqb a 76 && eqb b 83)))))))
+    && (eqb k blockBytes
+    && (leb k l && (leb l u && (leb u t && (eqb t (n - trailerBytes) && (eqb v form && (eqb a letterL && eqb b letterS)))))))
 
--- 01: "each section is whole records"
+-- each section is whole records
 unfoldable pub whole : ℕ → ℕ → ℕ → Bool
 whole l u t = eqb ((l - blockBytes) % kindBytes) 0 && (eqb ((u - l) % lineBytes) 0 && eqb ((t - u) % idBytes) 0)
 
+-- the same of a trailer's numbers
+abbrev pub placedBy : ℕ → List ℕ → Bool
+placedBy n v = placed n (getD v 0 0) (getD v 1 0) (getD v 2 0) (getD v 3 0) (getD v 4 0) (getD v 5 0) (getD v 6 0)
+
 unfoldable pub rightShape : List ℕ → Bool
 rightShape f =
-    leb trailerBytes (length f)
-    && (placed (length f) (kindsStart f) (linesStart f) (unplacedStart f) (trailerStart f) (u16At f (trailer f + 16)) (getD f (trailer f + 18) 0) (getD f (trailer f + 19) 0)
-    && whole (linesStart f) (unplacedStart f) (trailerStart f))
+    leb trailerBytes (length f) && (placedBy (length f) (trailerOf f) && whole (linesStart f) (unplacedStart f) (trailerStart f))
 
 -- how many records each section has
 unfoldable pub countsOf : List ℕ → Counts

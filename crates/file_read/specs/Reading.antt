@@ -1,4 +1,4 @@
--- What a load file says: its container, kinds, lines and unplaced ids, and the refusal that it gets.
+-- What a load file says: its container, kinds, lines and unplaced ids, and the refusal that it gets. RULES: Load file, Refusals
 use Prim.Native.Nat.{ℕ, zero, suc, _+_, _*_}
 use mathlib.Core.Bool.{cond, not}
 use mathlib.Core.List.{List, [], _∷_}
@@ -17,41 +17,52 @@ use Rattle.sheet.specs.declared.Sheet.{Sheet}
 use Rattle.sheet.specs.Sheets.{sheetRefusal, emptySheet}
 pub use Rattle.sheet.specs.Sheets.{blankKind, blankLine}
 use Rattle.file_read.specs.declared.Reading.{Reading}
-use Rattle.file_read.specs.Bytes.{u16At, u32At, u64At}
-use Rattle.file_read.specs.Form.{blockBytes, kindBytes, lineBytes, idBytes, linesStart, unplacedStart, rightShape, countsOf}
+use Rattle.file_bytes.specs.Bytes.{u32At}
+use Rattle.file_bytes.specs.Layout.{fieldsAt}
+use Rattle.file_read.specs.Form.{blockFields, kindFields, lineFields, blockBytes, kindBytes, lineBytes, idBytes}
+use Rattle.file_read.specs.Form.{linesStart, unplacedStart, rightShape, countsOf}
 
-unfoldable pub f64At : List ℕ → ℕ → Float
-f64At f at = ofBits binary64 (u64At f at)
+-- ---- a record by the numbers of its fields in turn
 
--- three floats in a row: lengths, or a position
-unfoldable pub threeAt : List ℕ → ℕ → List Float
-unfolding f64At
-threeAt f at = f64At f at ∷ f64At f (at + 8) ∷ f64At f (at + 16) ∷ []
+-- a float by its bits
+abbrev pub floatAt : List ℕ → ℕ → Float
+floatAt v i = ofBits binary64 (getD v i 0)
 
--- 01: "Container block, 48 bytes: width, depth, height, margin, spacing, mass limit as f64; all-zero limit means none"
-unfoldable pub containerFrom : List ℕ → Container
-unfolding threeAt f64At
-containerFrom f = record { size = threeAt f 0; margin = f64At f 24; spacing = f64At f 32; limit = f64At f 40 }
+unfoldable pub containerOf : List ℕ → Container
+containerOf v =
+    record { size = floatAt v 0 ∷ floatAt v 1 ∷ floatAt v 2 ∷ []; margin = floatAt v 3; spacing = floatAt v 4; limit = floatAt v 5 }
 
--- 01: "Kinds, 44 bytes: id, quantity (u32); three lengths, mass (f64); rule (0 any, 1 upright, 2 fixed), mass flag, two zero bytes"
-unfoldable pub kindFrom : List ℕ → ℕ → Kind
-unfolding threeAt f64At
-kindFrom f p =
+unfoldable pub kindOf : List ℕ → Kind
+kindOf v =
     record {
-      id = u32At f p;
-      quantity = u32At f (p + 4);
-      size = threeAt f (p + 8);
-      mass = f64At f (p + 32);
-      rule = getD f (p + 40) 0;
-      massed = getD f (p + 41) 0;
-      filler = u16At f (p + 42);
+      id = getD v 0 0;
+      quantity = getD v 1 0;
+      size = floatAt v 2 ∷ floatAt v 3 ∷ floatAt v 4 ∷ [];
+      mass = floatAt v 5;
+      rule = getD v 6 0;
+      massed = getD v 7 0;
+      filler = getD v 8 0;
     }
 
--- 01: "Lines, 40 bytes: id, instance, orientation, bin (u32); x, y, z"
+unfoldable pub lineOf : List ℕ → Line
+lineOf v =
+    record {
+      id = getD v 0 0;
+      instance = getD v 1 0;
+      orientation = getD v 2 0;
+      bin = getD v 3 0;
+      at = floatAt v 4 ∷ floatAt v 5 ∷ floatAt v 6 ∷ [];
+    }
+
+-- what stands in the container block, in a kind record and in a line record
+unfoldable pub containerFrom : List ℕ → Container
+containerFrom f = containerOf (fieldsAt blockFields f 0 0)
+
+unfoldable pub kindFrom : List ℕ → ℕ → Kind
+kindFrom f p = kindOf (fieldsAt kindFields f p 0)
+
 unfoldable pub lineFrom : List ℕ → ℕ → Line
-unfolding threeAt
-lineFrom f p =
-    record { id = u32At f p; instance = u32At f (p + 4); orientation = u32At f (p + 8); bin = u32At f (p + 12); at = threeAt f (p + 16) }
+lineFrom f p = lineOf (fieldsAt lineFields f p 0)
 
 -- where kind k, line i and unplaced id i stand
 abbrev pub kindPlace : ℕ → ℕ
@@ -66,11 +77,11 @@ idPlace f i = unplacedStart f + i * idBytes
 -- ---- a sheet's lists have a cell for each record that there may be; the cells past those that count are blank
 
 unfoldable pub kindsOf : List ℕ → ℕ → List Kind
-unfolding filled kindFrom
+unfolding filled
 kindsOf f n = table blankKind mostKinds (λ k. kindFrom f (kindPlace k)) n
 
 unfoldable pub linesOf : List ℕ → ℕ → ℕ → List Line
-unfolding filled lineFrom
+unfolding filled
 linesOf f start n = table blankLine mostLines (λ i. lineFrom f (start + i * lineBytes)) n
 
 unfoldable pub idsOf : List ℕ → ℕ → ℕ → List ℕ
@@ -89,7 +100,7 @@ sheetOf f =
       unplaced = idsOf f (unplacedStart f) (countsOf f .unplaced);
     }
 
--- 01's table and order, from 1 on
+-- its shape first, then what it says
 unfoldable pub refusalOf : List ℕ → ℕ
 unfolding orElse
 refusalOf f = orElse (when (not (rightShape f)) 1) (sheetRefusal (sheetOf f))

@@ -2,7 +2,7 @@
 use mathlib.Core.Path.{_≡_, refl, sym, ap, _∙_}
 use mathlib.Core.Bool.{Bool, true, false, cond}
 use mathlib.Core.List.{List}
-use Prim.Native.Nat.{ℕ, _+_, _*_, _<_, _≤_}
+use Prim.Native.Nat.{ℕ, _+_, _-_, _*_, _/_, _<_, _≤_}
 use native.Mathlib.Omega.{arith}
 use lib.Dec.{ltb, leb}
 use lib.ListN.{length}
@@ -16,17 +16,20 @@ use Rattle.sheet.specs.declared.Line.{Line}
 use Rattle.sheet.specs.Sheets.{overCount, kindAt, lineAt, unplacedAt, blankKind, blankLine}
 use Rattle.sheet.specs.Accepted.{Few, few}
 use Rattle.file_read.specs.declared.records.Sections.{Sections}
-use Rattle.file_read.specs.Bytes.{u32At}
-use Rattle.file_read.specs.Form.{blockBytes, kindBytes, lineBytes, idBytes, mostBytes, linesStart, unplacedStart, rightShape, countsOf}
+use Rattle.file_bytes.specs.Bytes.{u32At}
+use Rattle.file_read.specs.Form.{blockBytes, kindBytes, lineBytes, idBytes, mostBytes, trailer, linesStart, unplacedStart, rightShape, countsOf}
 use Rattle.file_read.specs.Reading.{kindFrom, lineFrom, kindPlace, linePlace, idPlace, containerFrom, sheetOf}
 use Rattle.file_read.specs.Shaped.{shaped, Within, within}
 use Rattle.file_read.specs.Tables.{kinds-at, lines-at, ids-at}
 
+-- ---- RULES: Load file
+
+-- a file of another shape has none
+abbrev pub noSections : Sections
+noSections = record { right = false; many = record { kinds = 0; lines = 0; unplaced = 0 }; start = 0; end = 0 }
+
 unfoldable pub sectionsOf : List ℕ → Sections
-sectionsOf f =
-    cond (rightShape f)
-    (record { right = true; many = countsOf f; start = linesStart f; end = unplacedStart f })
-    (record { right = false; many = record { kinds = 0; lines = 0; unplaced = 0 }; start = 0; end = 0 })
+sectionsOf f = cond (rightShape f) (record { right = true; many = countsOf f; start = linesStart f; end = unplacedStart f }) noSections
 
 abbrev pub blankContainer : Container
 blankContainer = record { size = nowhere; margin = none; spacing = none; limit = none }
@@ -51,9 +54,26 @@ unplacedIn f start i =
 
 -- ---- what the sections say
 
-sections-right : (f : List ℕ) → rightShape f ≡ true → sectionsOf f ≡ record { right = true; many = countsOf f; start = linesStart f; end = unplacedStart f }
+pub sections-right : (f : List ℕ) → rightShape f ≡ true → sectionsOf f ≡ record { right = true; many = countsOf f; start = linesStart f; end = unplacedStart f }
 unfolding sectionsOf
 sections-right f h = rw h
+
+pub wrong-sections : (f : List ℕ) → rightShape f ≡ false → noSections ≡ sectionsOf f
+unfolding sectionsOf
+wrong-sections f h = rw h
+
+-- by the starts that were read
+pub right-sections : (f : List ℕ) (l u : ℕ) → rightShape f ≡ true → l ≡ linesStart f → u ≡ unplacedStart f
+    → _≡_ {A = Sections}
+    (record {
+      right = true;
+      many = record { kinds = (l - blockBytes) / kindBytes; lines = (u - l) / lineBytes; unplaced = (trailer f - u) / idBytes };
+      start = l;
+      end = u;
+    })
+    (sectionsOf f)
+unfolding countsOf
+right-sections f l u h el eu = rw (el, eu) (sym (sections-right f h))
 
 pub right-is : (f : List ℕ) → sectionsOf f .right ≡ rightShape f
 unfolding sectionsOf

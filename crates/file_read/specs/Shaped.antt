@@ -1,7 +1,7 @@
 -- What is known of a file of the right shape.
 use mathlib.Core.Path.{_≡_, refl, sym, _∙_}
 use mathlib.Core.Bool.{Bool, true, false, _&&_}
-use mathlib.Core.List.{List}
+use mathlib.Core.List.{List, [], _∷_}
 use Prim.Native.Nat.{ℕ, _+_, _-_, _*_, _≤_, _%_}
 use native.Mathlib.Omega.{arith}
 use lib.Dec.{leb, eqb}
@@ -9,8 +9,10 @@ use lib.ListN.{length, getD}
 use borrow.Author.Tests.{leb-true, eqb-true, le-leb}
 use Rattle.lists.specs.Bools.{and-left, and-right}
 use Rattle.sheet.specs.declared.Counts.{Counts}
-use Rattle.file_read.specs.Bytes.{u16At, u32At}
-use Rattle.file_read.specs.Form.{blockBytes, kindBytes, lineBytes, idBytes, trailerBytes, mostBytes, form, trailer, kindsStart, linesStart, unplacedStart, trailerStart, placed, whole, rightShape, countsOf}
+use Rattle.file_bytes.specs.Bytes.{byteAt, u16At, u32At}
+use Rattle.file_bytes.specs.Layout.{fieldsAt}
+use Rattle.file_read.specs.Form.{blockBytes, kindBytes, lineBytes, idBytes, trailerBytes, mostBytes, form, letterL, letterS}
+use Rattle.file_read.specs.Form.{trailer, trailerOf, linesStart, unplacedStart, trailerStart, placed, placedBy, whole, rightShape, countsOf}
 
 -- what a right placing says of the starts, the form and the last bytes
 pub record Placed (n k l u t v a b : ℕ) : Type 0 where
@@ -21,8 +23,8 @@ pub record Placed (n k l u t v a b : ℕ) : Type 0 where
   pub ids : u ≤ t
   pub last : t ≡ n - trailerBytes
   pub version : v ≡ form
-  pub letter : a ≡ 76
-  pub letter′ : b ≡ 83
+  pub letter : a ≡ letterL
+  pub letter′ : b ≡ letterS
 
 pub placed-says : (n k l u t v a b : ℕ) → placed n k l u t v a b ≡ true → Placed n k l u t v a b
 unfolding placed
@@ -42,14 +44,18 @@ placed-says n k l u t v a b h =
       ids = leb-true u t (and-left _ _ h₄);
       last = eqb-true t (n - trailerBytes) (and-left _ _ h₅);
       version = eqb-true v form (and-left _ _ h₆);
-      letter = eqb-true a 76 (and-left _ _ h₇);
-      letter′ = eqb-true b 83 (and-right (eqb a 76) _ h₇);
+      letter = eqb-true a letterL (and-left _ _ h₇);
+      letter′ = eqb-true b letterS (and-right (eqb a letterL) _ h₇);
     }
+
+-- the same of a trailer's numbers
+abbrev pub PlacedBy : ℕ → List ℕ → Type 0
+PlacedBy n v = Placed n (getD v 0 0) (getD v 1 0) (getD v 2 0) (getD v 3 0) (getD v 4 0) (getD v 5 0) (getD v 6 0)
 
 -- the sections follow one another without a gap, from the container block to the trailer
 pub record Shaped (f : List ℕ) : Type 0 where
   pub long : trailerBytes ≤ length f
-  pub placed-right : Placed (length f) (kindsStart f) (linesStart f) (unplacedStart f) (trailerStart f) (u16At f (trailer f + 16)) (getD f (trailer f + 18) 0) (getD f (trailer f + 19) 0)
+  pub placed-right : PlacedBy (length f) (trailerOf f)
   pub kinds-end : blockBytes + countsOf f .kinds * kindBytes ≡ linesStart f
   pub lines-end : linesStart f + countsOf f .lines * lineBytes ≡ unplacedStart f
   pub ids-end : unplacedStart f + countsOf f .unplaced * idBytes ≡ trailer f
@@ -59,7 +65,7 @@ unfolding rightShape whole countsOf
 shaped f h =
     let q = and-right (leb trailerBytes (length f)) _ h in
     let p = placed-says _ _ _ _ _ _ _ _ (and-left _ _ q) in
-    let w = and-right (placed (length f) (kindsStart f) (linesStart f) (unplacedStart f) (trailerStart f) (u16At f (trailer f + 16)) (getD f (trailer f + 18) 0) (getD f (trailer f + 19) 0)) _ q in
+    let w = and-right (placedBy (length f) (trailerOf f)) _ q in
     let w₁ = and-right (eqb ((linesStart f - blockBytes) % kindBytes) 0) _ w in
     let a = eqb-true ((linesStart f - blockBytes) % kindBytes) 0 (and-left _ _ w) in
     let b = eqb-true ((unplacedStart f - linesStart f) % lineBytes) 0 (and-left _ _ w₁) in
@@ -72,11 +78,18 @@ shaped f h =
       ids-end = omega arith;
     }
 
--- the shape, of the numbers that were read
-pub shape-is : (f : List ℕ) (k l u t v : ℕ) (p : Bool) → trailerBytes ≤ length f → k ≡ kindsStart f → l ≡ linesStart f → u ≡ unplacedStart f → t ≡ trailerStart f → v ≡ u16At f (trailer f + 16)
-    → p ≡ placed (length f) k l u t v (getD f (trailer f + 18) 0) (getD f (trailer f + 19) 0) → (p && whole l u t) ≡ rightShape f
+-- the trailer by the numbers that were read there, and the shape by the tests on them
+pub trailer-is : (f : List ℕ) (k l u t v a b : ℕ)
+    → k ≡ u32At f (trailer f + 0) → l ≡ u32At f (trailer f + 4) → u ≡ u32At f (trailer f + 8) → t ≡ u32At f (trailer f + 12)
+    → v ≡ u16At f (trailer f + 16) → a ≡ byteAt f (trailer f + 18) → b ≡ byteAt f (trailer f + 19)
+    → trailerOf f ≡ k ∷ l ∷ u ∷ t ∷ v ∷ a ∷ b ∷ []
+unfolding trailerOf fieldsAt
+trailer-is f k l u t v a b ek el eu et ev ea eb = rw (ek, el, eu, et, ev, ea, eb)
+
+pub shape-is : (f : List ℕ) (k l u t v a b : ℕ) (p : Bool) → trailerBytes ≤ length f → trailerOf f ≡ k ∷ l ∷ u ∷ t ∷ v ∷ a ∷ b ∷ []
+    → p ≡ placed (length f) k l u t v a b → (p && whole l u t) ≡ rightShape f
 unfolding rightShape
-shape-is f k l u t v p long ek el eu et ev ep = rw (le-leb trailerBytes (length f) long) (cc)
+shape-is f k l u t v a b p long e ep = rw (le-leb trailerBytes (length f) long, e, ep)
 
 -- the sections that these counts give lie within the file
 pub record Within (f : List ℕ) (m : Counts) : Type 0 where

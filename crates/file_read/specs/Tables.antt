@@ -6,7 +6,7 @@ use lib.ListN.{getD}
 use Rattle.lists.specs.Table.{table-at}
 use Rattle.domain.specs.Bounds.{mostKinds, mostLines, mostUnplaced}
 use Rattle.sheet.specs.Sheets.{noKind, noLine}
-use Rattle.file_read.specs.Bytes.{u32At}
+use Rattle.file_bytes.specs.Bytes.{u32At}
 use Rattle.file_read.specs.Form.{lineBytes, idBytes}
 use Rattle.file_read.specs.Reading.{kindFrom, lineFrom, kindPlace, blankKind, blankLine, kindsOf, linesOf, idsOf}
 

@@ -1,15 +1,13 @@
 // A load file's records, and the sheet that they make.
 ghost use mathlib.Core.Path.{_≡_};
-ghost use mathlib.Core.Bool.{true, false};
 ghost use Prim.Native.Nat.{_+_, _*_, _≤_};
 ghost use lib.ListN.{length};
 ghost use Rattle.domain.specs.Bounds.{mostKinds, mostLines, mostUnplaced};
-ghost use Rattle.sheet.specs.Sheets.{overCount};
-ghost use Rattle.file_read.specs.Form.{rightShape, countsOf};
+ghost use Rattle.file_read.specs.Form.{kindBytes, lineBytes, idBytes, linesStart, unplacedStart, countsOf};
 ghost use Rattle.file_read.specs.Reading.{containerFrom, kindFrom, lineFrom, kindPlace, kindsOf, linesOf, idsOf, sheetOf};
-ghost use Rattle.sheet.specs.Sheets.{blankKind, blankLine};
+ghost use Rattle.file_read.specs.Records.{Readable};
+use crate::layout;
 use crate::le;
-use crate::shape;
 use measures::Container;
 use measures::Kind;
 use sheet::Counts;
@@ -17,15 +15,16 @@ use sheet::Line;
 use sheet::Sheet;
 
 pub(crate) fn container_at(f: &[u8]) -> Container
-    requires { ⌜ 48 ≤ length (now f) ⌝ }
     ensures { λ r. ⌜ r ≡ containerFrom (now (f .entry)) ⌝ }
 {
-    let size = le::three_at(f, 0);
-    let margin = le::f64_at(f, 24);
-    let spacing = le::f64_at(f, 32);
-    let limit = le::f64_at(f, 40);
+    let width = file_bytes::f64_at(f, layout::BLOCK_WIDTH);
+    let depth = file_bytes::f64_at(f, layout::BLOCK_DEPTH);
+    let height = file_bytes::f64_at(f, layout::BLOCK_HEIGHT);
+    let margin = file_bytes::f64_at(f, layout::BLOCK_MARGIN);
+    let spacing = file_bytes::f64_at(f, layout::BLOCK_SPACING);
+    let limit = file_bytes::f64_at(f, layout::BLOCK_LIMIT);
     Container {
-        size,
+        size: [width, depth, height],
         margin,
         spacing,
         limit,
@@ -33,20 +32,22 @@ pub(crate) fn container_at(f: &[u8]) -> Container
 }
 
 pub(crate) fn kind_at(f: &[u8], p: usize) -> Kind
-    requires { ⌜ p + 44 ≤ length (now f) ⌝ }
+    requires { ⌜ p + kindBytes ≤ length (now f) ⌝ }
     ensures { λ r. ⌜ r ≡ kindFrom (now (f .entry)) p ⌝ }
 {
-    let id = le::u32_at(f, p);
-    let quantity = le::u32_at(f, p + 4);
-    let size = le::three_at(f, p + 8);
-    let mass = le::f64_at(f, p + 32);
-    let rule = f[p + 40];
-    let massed = f[p + 41];
-    let filler = le::u16_at(f, p + 42);
+    let id = le::word(f, p + layout::KIND_ID);
+    let quantity = le::word(f, p + layout::KIND_QUANTITY);
+    let width = le::float(f, p + layout::KIND_WIDTH);
+    let depth = le::float(f, p + layout::KIND_DEPTH);
+    let height = le::float(f, p + layout::KIND_HEIGHT);
+    let mass = le::float(f, p + layout::KIND_MASS);
+    let rule = file_bytes::byte_at(f, p + layout::KIND_RULE);
+    let massed = file_bytes::byte_at(f, p + layout::KIND_MASSED);
+    let filler = file_bytes::u16_at(f, p + layout::KIND_FILLER);
     Kind {
         id,
         quantity,
-        size,
+        size: [width, depth, height],
         mass,
         rule,
         massed,
@@ -55,48 +56,22 @@ pub(crate) fn kind_at(f: &[u8], p: usize) -> Kind
 }
 
 pub(crate) fn line_at(f: &[u8], p: usize) -> Line
-    requires { ⌜ p + 40 ≤ length (now f) ⌝ }
+    requires { ⌜ p + lineBytes ≤ length (now f) ⌝ }
     ensures { λ r. ⌜ r ≡ lineFrom (now (f .entry)) p ⌝ }
 {
-    let id = le::u32_at(f, p);
-    let instance = le::u32_at(f, p + 4);
-    let orientation = le::u32_at(f, p + 8);
-    let bin = le::u32_at(f, p + 12);
-    let at = le::three_at(f, p + 16);
+    let id = le::word(f, p + layout::LINE_ID);
+    let instance = le::word(f, p + layout::LINE_INSTANCE);
+    let orientation = le::word(f, p + layout::LINE_ORIENTATION);
+    let bin = le::word(f, p + layout::LINE_BIN);
+    let x = le::float(f, p + layout::LINE_X);
+    let y = le::float(f, p + layout::LINE_Y);
+    let z = le::float(f, p + layout::LINE_Z);
     Line {
         id,
         instance,
         orientation,
         bin,
-        at,
-    }
-}
-
-pub(crate) fn blank_kind() -> Kind
-    ensures { λ r. ⌜ r ≡ blankKind ⌝ }
-{
-    let size = [0.0, 0.0, 0.0];
-    Kind {
-        id: 0,
-        quantity: 0,
-        size,
-        mass: 0.0,
-        rule: 0,
-        massed: 0,
-        filler: 0,
-    }
-}
-
-pub(crate) fn blank_line() -> Line
-    ensures { λ r. ⌜ r ≡ blankLine ⌝ }
-{
-    let at = [0.0, 0.0, 0.0];
-    Line {
-        id: 0,
-        instance: 0,
-        orientation: 0,
-        bin: 0,
-        at,
+        at: [x, y, z],
     }
 }
 
@@ -104,11 +79,11 @@ fn kinds_of(f: &[u8], n: usize) -> [Kind; domain::MOST_KINDS]
     requires { ⌜ (n ≤ mostKinds) × (kindPlace n ≤ length (now f)) ⌝ }
     ensures { λ r. ⌜ r ≡ kindsOf (now (f .entry)) n ⌝ }
 {
-    let blank = blank_kind();
+    let blank = sheet::blank_kind();
     let mut kinds = [blank; domain::MOST_KINDS];
     let mut k = 0;
     while k < n {
-        let kind = kind_at(f, crate::BLOCK + k * crate::KIND);
+        let kind = kind_at(f, layout::BLOCK + k * layout::KIND);
         kinds[k] = kind;
         k += 1;
     }
@@ -116,14 +91,14 @@ fn kinds_of(f: &[u8], n: usize) -> [Kind; domain::MOST_KINDS]
 }
 
 fn lines_of(f: &[u8], start: usize, n: usize) -> [Line; domain::MOST_LINES]
-    requires { ⌜ (n ≤ mostLines) × (start + n * 40 ≤ length (now f)) ⌝ }
+    requires { ⌜ (n ≤ mostLines) × (start + n * lineBytes ≤ length (now f)) ⌝ }
     ensures { λ r. ⌜ r ≡ linesOf (now (f .entry)) start n ⌝ }
 {
-    let blank = blank_line();
+    let blank = sheet::blank_line();
     let mut lines = [blank; domain::MOST_LINES];
     let mut i = 0;
     while i < n {
-        let line = line_at(f, start + i * crate::LINE);
+        let line = line_at(f, start + i * layout::LINE);
         lines[i] = line;
         i += 1;
     }
@@ -131,27 +106,27 @@ fn lines_of(f: &[u8], start: usize, n: usize) -> [Line; domain::MOST_LINES]
 }
 
 fn ids_of(f: &[u8], start: usize, n: usize) -> [u32; domain::MOST_UNPLACED]
-    requires { ⌜ (n ≤ mostUnplaced) × (start + n * 4 ≤ length (now f)) ⌝ }
+    requires { ⌜ (n ≤ mostUnplaced) × (start + n * idBytes ≤ length (now f)) ⌝ }
     ensures { λ r. ⌜ r ≡ idsOf (now (f .entry)) start n ⌝ }
 {
     let mut ids = [0u32; domain::MOST_UNPLACED];
     let mut i = 0;
     while i < n {
-        ids[i] = le::u32_at(f, start + i * crate::ID);
+        ids[i] = file_bytes::u32_at(f, start + i * layout::ID);
         i += 1;
     }
     ids
 }
 
-// The sheet that a file of the right shape and with counts within their bounds says.
-pub(crate) fn sheet_of(f: &[u8], many: Counts) -> Sheet
-    requires { ⌜ (rightShape (now f) ≡ true) × ((many ≡ countsOf (now f)) × (overCount many ≡ false)) ⌝ }
+// The sheet that a file of the right shape says, with counts within their bounds and these starts of the lines and the unplaced ids.
+pub(crate) fn sheet_of(f: &[u8], many: Counts, start: usize, end: usize) -> Sheet
+    requires { ⌜ Readable (now f) × ((many ≡ countsOf (now f)) × ((start ≡ linesStart (now f)) × (end ≡ unplacedStart (now f)))) ⌝ }
     ensures { λ r. ⌜ r ≡ sheetOf (now (f .entry)) ⌝ }
 {
     let container = container_at(f);
     let kinds = kinds_of(f, many.kinds);
-    let lines = lines_of(f, shape::lines_start(f), many.lines);
-    let unplaced = ids_of(f, shape::unplaced_start(f), many.unplaced);
+    let lines = lines_of(f, start, many.lines);
+    let unplaced = ids_of(f, end, many.unplaced);
     Sheet {
         many,
         container,

@@ -1,4 +1,4 @@
--- How a sheet is written, and the writing call's answer and effect.
+-- How a sheet is written, and the writing call's answer and effect. RULES: Load file, Lent memory
 use Prim.Native.Nat.{ℕ, _+_, _*_}
 use mathlib.Core.Bool.{cond, _&&_}
 use mathlib.Core.List.{List, [], _∷_, _++_}
@@ -14,31 +14,28 @@ use Rattle.sheet.specs.declared.Sheet.{Sheet}
 use Rattle.sheet.specs.Sheets.{noKind, noLine, sheetRefusal}
 use Rattle.file_write.specs.declared.Written.{Written}
 use Rattle.lists.specs.Below.{allBelow}
-use Rattle.file_read.specs.Bytes.{le2, le4, le8}
-use Rattle.file_read.specs.Form.{blockBytes, kindBytes, lineBytes, idBytes, trailerBytes, form}
+use Rattle.file_bytes.specs.Bytes.{u32Out}
+use Rattle.file_bytes.specs.Layout.{fieldsOut}
+use Rattle.file_read.specs.Form.{blockFields, kindFields, lineFields, trailerFields, form, letterL, letterS}
+use Rattle.file_read.specs.Form.{blockBytes, kindBytes, lineBytes, idBytes, trailerBytes}
 
-unfoldable pub floatOut : Float → List ℕ
-floatOut v = le8 (toBits binary64 v)
+-- ---- the numbers of a record's fields in turn: what `file_read: Reading` makes a record of
 
-unfoldable pub threeOut : List Float → List ℕ
-unfolding floatOut
-threeOut v = floatOut (x v) ++ (floatOut (y v) ++ floatOut (z v))
+-- a float's bits
+abbrev pub bitsOf : Float → ℕ
+bitsOf v = toBits binary64 v
 
--- 01: "Container block, 48 bytes: width, depth, height, margin, spacing, mass limit as f64"
-unfoldable pub containerOut : Container → List ℕ
-unfolding threeOut floatOut
-containerOut c = threeOut (c .size) ++ (floatOut (c .margin) ++ (floatOut (c .spacing) ++ floatOut (c .limit)))
+unfoldable pub containerNumbers : Container → List ℕ
+containerNumbers c =
+    bitsOf (x (c .size)) ∷ bitsOf (y (c .size)) ∷ bitsOf (z (c .size)) ∷ bitsOf (c .margin) ∷ bitsOf (c .spacing) ∷ bitsOf (c .limit) ∷ []
 
--- 01: "Kinds, 44 bytes: id, quantity (u32); three lengths, mass (f64); rule (0 any, 1 upright, 2 fixed), mass flag, two zero bytes"
-unfoldable pub kindOut : Kind → List ℕ
-unfolding threeOut floatOut
-kindOut k =
-    le4 (k .id) ++ (le4 (k .quantity) ++ (threeOut (k .size) ++ (floatOut (k .mass) ++ ((k .rule ∷ k .massed ∷ []) ++ le2 (k .filler)))))
+unfoldable pub kindNumbers : Kind → List ℕ
+kindNumbers k =
+    k .id ∷ k .quantity ∷ bitsOf (x (k .size)) ∷ bitsOf (y (k .size)) ∷ bitsOf (z (k .size)) ∷ bitsOf (k .mass) ∷ k .rule ∷ k .massed ∷ k .filler ∷ []
 
--- 01: "Lines, 40 bytes: id, instance, orientation, bin (u32); x, y, z"
-unfoldable pub lineOut : Line → List ℕ
-unfolding threeOut
-lineOut l = le4 (l .id) ++ (le4 (l .instance) ++ (le4 (l .orientation) ++ (le4 (l .bin) ++ threeOut (l .at))))
+unfoldable pub lineNumbers : Line → List ℕ
+lineNumbers l =
+    l .id ∷ l .instance ∷ l .orientation ∷ l .bin ∷ bitsOf (x (l .at)) ∷ bitsOf (y (l .at)) ∷ bitsOf (z (l .at)) ∷ []
 
 -- where a sheet's lines, unplaced ids and trailer start
 abbrev pub linesFrom : Counts → ℕ
@@ -50,9 +47,22 @@ unplacedFrom m = linesFrom m + m .lines * lineBytes
 abbrev pub trailerFrom : Counts → ℕ
 trailerFrom m = unplacedFrom m + m .unplaced * idBytes
 
--- 01: "The trailer, 20 bytes, points back: starts of kinds (48), lines, unplaced, trailer (u32); form 1 (u16); bytes 76, 83"
+unfoldable pub trailerNumbers : Counts → List ℕ
+trailerNumbers m = blockBytes ∷ linesFrom m ∷ unplacedFrom m ∷ trailerFrom m ∷ form ∷ letterL ∷ letterS ∷ []
+
+-- ---- the records as bytes
+
+unfoldable pub containerOut : Container → List ℕ
+containerOut c = fieldsOut blockFields (containerNumbers c)
+
+unfoldable pub kindOut : Kind → List ℕ
+kindOut k = fieldsOut kindFields (kindNumbers k)
+
+unfoldable pub lineOut : Line → List ℕ
+lineOut l = fieldsOut lineFields (lineNumbers l)
+
 unfoldable pub trailerOut : Counts → List ℕ
-trailerOut m = le4 blockBytes ++ (le4 (linesFrom m) ++ (le4 (unplacedFrom m) ++ (le4 (trailerFrom m) ++ (le2 form ++ (76 ∷ 83 ∷ [])))))
+trailerOut m = fieldsOut trailerFields (trailerNumbers m)
 
 -- the records of a section
 unfoldable pub kindsOut : List Kind → ℕ → List ℕ
@@ -62,7 +72,7 @@ unfoldable pub linesOut : List Line → ℕ → List ℕ
 linesOut lines n = allBelow (λ i. lineOut (getD lines i noLine)) n
 
 unfoldable pub idsOut : List ℕ → ℕ → List ℕ
-idsOut ids n = allBelow (λ i. le4 (getD ids i 0)) n
+idsOut ids n = allBelow (λ i. u32Out (getD ids i 0)) n
 
 -- the file of a sheet
 unfoldable pub fileOf : Sheet → List ℕ

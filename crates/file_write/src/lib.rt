@@ -1,10 +1,14 @@
 // Writing a load file, form 1: a sheet to bytes.
 ghost use mathlib.Core.Path.{_≡_};
 ghost use lib.ListN.{length};
+ghost use Rattle.file_write.specs.Planned.{overPlan};
+ghost use Rattle.file_write.specs.PlanStores.{Told};
 ghost use Rattle.file_write.specs.Writing.{writtenOf, bytesAfter};
+use file_read::layout;
+use sheet::Counts;
 use sheet::Sheet;
 
-mod le;
+mod plan;
 mod write;
 
 // The refusal of a writing call, 0 for none, and the length of the file: the length written, or with 6 the length needed.
@@ -28,4 +32,74 @@ pub fn write_sheet(s: Sheet, out: &mut [u8]) -> Written
     }
     write::put_sheet(out, s);
     Written { refused: 0, length }
+}
+
+fn over_plan(many: Counts) -> bool
+    ensures { λ r. ⌜ r ≡ overPlan many ⌝ }
+{
+    (many.kinds > domain::MOST_KINDS)
+        | ((many.lines > domain::MOST_LINES) | (many.unplaced > domain::MOST_KINDS))
+}
+
+// Writes a planned sheet at the start of the lent bytes: the container block and the kinds are the order's bytes, the lines and the ids of what
+// was left come from columns. The order was accepted and has so many kinds; counts over their bounds get 2, and an order that does not hold
+// its kinds 1.
+pub fn write_plan(
+    order: &[u8],
+    kinds: usize,
+    ids: &[u32; domain::MOST_LINES],
+    instances: &[u32; domain::MOST_LINES],
+    turns: &[u32; domain::MOST_LINES],
+    xs: &[f64; domain::MOST_LINES],
+    ys: &[f64; domain::MOST_LINES],
+    zs: &[f64; domain::MOST_LINES],
+    placed: usize,
+    left: &[u32; domain::MOST_KINDS],
+    unplaced: usize,
+    out: &mut [u8],
+) -> Written
+    ensures { λ r. ⌜ Told (now (order .entry)) (record { kinds = kinds; lines = placed; unplaced = unplaced })
+        (record {
+          ids = now (ids .entry);
+          instances = now (instances .entry);
+          turns = now (turns .entry);
+          xs = now (xs .entry);
+          ys = now (ys .entry);
+          zs = now (zs .entry);
+        })
+        (now (left .entry)) (now (out .entry)) (now (out .exit)) r ⌝ }
+{
+    let many = Counts {
+        kinds,
+        lines: placed,
+        unplaced,
+    };
+    if over_plan(many) {
+        return Written {
+            refused: 2,
+            length: 0,
+        };
+    }
+    let start = layout::BLOCK + kinds * layout::KIND;
+    if order.len() < start {
+        return Written {
+            refused: 1,
+            length: 0,
+        };
+    }
+    let needed = write::file_length(many);
+    if out.len() < needed {
+        return Written {
+            refused: 6,
+            length: needed,
+        };
+    }
+    plan::put_head(out, order, start);
+    plan::put_columns(out, start, ids, instances, turns, xs, ys, zs, placed);
+    plan::put_left(out, start + placed * layout::LINE, left, unplaced);
+    write::put_trailer(out, many);
+    Written {
+        refused: 0,
+        length: needed,
+    }
 }

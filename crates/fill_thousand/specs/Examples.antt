@@ -1,4 +1,4 @@
--- 01's worked example, by computation, and its neighbours: an unknown kind, a length with a fraction, one that divides with a rest, and the bound.
+-- The worked example, by computation, and its neighbours: an unknown kind, a length with a fraction, one that divides with a rest, and the bound.
 use mathlib.Core.Path.{_≡_, refl}
 use mathlib.Core.List.{List, [], _∷_, _++_}
 use Prim.Native.Nat.{ℕ, _-_}
@@ -21,13 +21,14 @@ use Rattle.fill_thousand.specs.Fill.{uneven, unevenKind, fillRefusal, so
 abbrev placed : ℕ → Float → Line
 placed id v = record { id = id; instance = 0; orientation = 0; bin = 0; at = v ∷ none ∷ none ∷ [] }
 
--- 01: "Spacing 1; kind 7, fixed 4-cube, quantity 2", in a container of this width and 10 × 10, with these lines
+-- spacing 1, and a kind 7 of two cubes of 4 that may not be turned, in a container of this width and 10 × 10, with these lines
 abbrev loaded : Float → List Line → ℕ → Sheet
 loaded width ls n =
     record {
       many = record { kinds = 1; lines = n; unplaced = 0 };
       container = record { size = width ∷ whole 10 ∷ whole 10 ∷ []; margin = none; spacing = whole 1; limit = none };
-      kinds = record { id = 7; quantity = 2; size = whole 4 ∷ whole 4 ∷ whole 4 ∷ []; mass = none; rule = 2; massed = 0; filler = 0 } ∷ replicate (mostKinds - 1) noKind;
+      kinds = record { id = 7; quantity = 2; size = whole 4 ∷ whole 4 ∷ whole 4 ∷ []; mass = none; rule = 2; massed = 0; filler = 0 }
+          ∷ replicate (mostKinds - 1) noKind;
       lines = ls ++ replicate (mostLines - n) noLine;
       unplaced = replicate mostUnplaced 0;
     }
@@ -42,7 +43,7 @@ both = placed 7 none ∷ placed 7 fourAndAHalf ∷ []
 abbrev filled : ℕ → ℕ → Filled
 filled refused fill = record { refused = refused; fill = fill }
 
--- 01: "The fill per thousand here is 128." Below it: one line of the two unknown; then widths of 4.5, 100, 10,000 and 10,001
+-- two such cubes in a cube of 10 fill 128 of a thousand. Below it: one line of the two unknown; then widths of 4.5, 100, 10,000 and 10,001
 pub worked :
     (fillOf (loaded (whole 10) both 2) ≡ filled 0 128)
     × (fillOf (loaded (whole 10) (placed 8 none ∷ placed 7 fourAndAHalf ∷ []) 2) ≡ filled 0 64)
@@ -50,5 +51,7 @@ pub worked :
     × (fillOf (loaded (whole 100) both 2) ≡ filled 0 12)
     × (fillOf (loaded (whole 10000) both 2) ≡ filled 0 0)
     × (fillOf (loaded (whole 10001) both 2) ≡ filled 8 0)
-unfolding fillOf fillRefusal sheetRefusal orElse containerFault firstBelow kindFaultIn kindFault anyBelow sameId sumBelow quantityOf lineFaultIn lineFault uneven unevenKind sideOf wholeOrNone perThousand solidOf solidNamed solidIf lineVolume ofBits toBits ofInt lt le eq neg toUnsigned
+unfolding fillOf fillRefusal sheetRefusal orElse containerFault firstBelow kindFaultIn kindFault anyBelow sameId sumBelow
+    quantityOf lineFaultIn lineFault uneven unevenKind sideOf wholeOrNone perThousand solidOf solidNamed solidIf lineVolume ofBits toBits ofInt lt le
+    eq neg toUnsigned
 worked = (refl, refl, refl, refl, refl, refl)

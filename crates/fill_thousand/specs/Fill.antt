@@ -1,4 +1,4 @@
--- The fill per thousand of a sheet, in whole numbers.
+-- The fill per thousand of a sheet, in whole numbers. RULES: Fill per thousand
 use Prim.Native.Nat.{ℕ, _*_, _/_}
 use mathlib.Core.Bool.{Bool, _||_, cond}
 use mathlib.Core.List.{List}
@@ -13,9 +13,9 @@ use Rattle.sheet.specs.declared.Line.{Line}
 use Rattle.sheet.specs.declared.Sheet.{Sheet}
 use Rattle.sheet.specs.Sheets.{noKind, noLine, sheetRefusal}
 use Rattle.fill_thousand.specs.declared.Filled.{Filled}
-use Rattle.fill_thousand.specs.Sides.{sideOf}
+use Rattle.fill_thousand.specs.Sides.{mostSide, sideOf}
 
--- ---- 01, number 8: "a container or kind length isn't whole or is over 10,000"
+-- ---- 8: a length of the container or of a kind is no whole number from 1 to 10,000
 
 unfoldable pub uneven : List Float → Bool
 uneven size = eqb (sideOf (x size)) 0 || (eqb (sideOf (y size)) 0 || eqb (sideOf (z size)) 0)
@@ -23,11 +23,15 @@ uneven size = eqb (sideOf (x size)) 0 || (eqb (sideOf (y size)) 0 || eqb (sideOf
 unfoldable pub unevenKind : List Kind → ℕ → Bool
 unevenKind kinds k = uneven (getD kinds k noKind .size)
 
--- 01: "2 for kinds, lines, unplaced, ..; 3 line by line; then 9, 8, 7, 6"
+-- behind all that the sheet is refused for. RULES: Refusals
 unfoldable pub fillRefusal : Sheet → ℕ
 fillRefusal s = orElse (sheetRefusal s) (when (uneven (s .container .size) || anyBelow (unevenKind (s .kinds)) (s .many .kinds)) 8)
 
 -- ---- volumes
+
+-- the largest that there is
+abbrev pub mostSolid : ℕ
+mostSolid = mostSide * mostSide * mostSide
 
 -- width by depth by height
 unfoldable pub solidOf : List Float → ℕ
@@ -40,12 +44,12 @@ solidNamed k id = when (eqb (k .id) id) (solidOf (k .size))
 unfoldable pub solidIf : List Kind → ℕ → ℕ → ℕ
 solidIf kinds id k = solidNamed (getD kinds k noKind) id
 
--- 01: "lines of known kinds": of line i, the volume of the kind that has its id. Known.antt shows that in an accepted sheet this is that one
--- kind's volume, and 0 where no kind has the id.
+-- of line i, the volume of the kind that has its id. Known.antt shows that in an accepted sheet this is that one kind's volume, and 0 where no
+-- kind has the id: a line of an unknown kind counts for nothing.
 unfoldable pub lineVolume : List Kind → ℕ → List Line → ℕ → ℕ
 lineVolume kinds m lines i = sumBelow (solidIf kinds (getD lines i noLine .id)) m
 
--- ---- 01: "Fill per thousand: volume of all lines of known kinds times 1,000, divided by container volume, rounded down."
+-- ---- the volume of the lines, a thousand times, by that of the container, rounded down
 unfoldable pub perThousand : Sheet → ℕ
 perThousand s = sumBelow (lineVolume (s .kinds) (s .many .kinds) (s .lines)) (s .many .lines) * 1000 / solidOf (s .container .size)
 

@@ -43,7 +43,9 @@ below-words nan h k = absurd h
 below-words (inf true) h k = absurd h
 below-words (inf false) h k = absurd k
 below-words (fin true n d) h k = absurd (not-negative n d h)
-below-words (fin false n d) h k = lt→ltb (n * up d * 1) (1 * 2 ^ 64 * down d) (less (n * up d) (down d) (down-pos d) (says false (n * up d * 1) false (625 * 2 ^ 4 * down d) k))
+below-words (fin false n d) h k =
+    lt→ltb (n * up d * 1) (1 * 2 ^ 64 * down d)
+    (less (n * up d) (down d) (down-pos d) (says false (n * up d * 1) false (625 * 2 ^ 4 * down d) k))
   where
     less : (a b : ℕ) → 0 < b → a * 1 ≤ 625 * 2 ^ 4 * b → a * 1 < 1 * 2 ^ 64 * b
     less a b p q = omega arith
@@ -54,7 +56,9 @@ cut-most nan k = absurd k
 cut-most (inf true) k = zero-le
 cut-most (inf false) k = absurd k
 cut-most (fin true n d) k = zero-le
-cut-most (fin false n d) k = least-of (n * up d / down d) (2 ^ 64 - 1) (div-le-of-le-mul (down d) (less (n * up d) (down d) (says false (n * up d * 1) false (625 * 2 ^ 4 * down d) k)))
+cut-most (fin false n d) k =
+    least-of (n * up d / down d) (2 ^ 64 - 1)
+    (div-le-of-le-mul (down d) (less (n * up d) (down d) (says false (n * up d * 1) false (625 * 2 ^ 4 * down d) k)))
   where
     less : (a b : ℕ) → a * 1 ≤ 625 * 2 ^ 4 * b → a ≤ b * 10000
     less a b q = omega arith
@@ -165,7 +169,8 @@ side-is v n f N e = (
 pub side-of : (n : ℕ) → 0 < n → n ≤ 10000 → sideOf (whole n) ≡ n
 unfolding sideOf wholeOrNone
 side-of n N h =
-    ap (λ (b : Bool). cond b (cond (eq (whole (cut (whole n))) (whole n)) (cut (whole n)) 0) 0) (is-true (le shortest (whole n) && le (whole n) longest) (and-i (le shortest (whole n)) (le (whole n) longest) low high))
+    ap (λ (b : Bool). cond b (cond (eq (whole (cut (whole n))) (whole n)) (cut (whole n)) 0) 0)
+    (is-true (le shortest (whole n) && le (whole n) longest) (and-i (le shortest (whole n)) (le (whole n) longest) low high))
     ∙ ap (λ (k : ℕ). cond (eq (whole k) (whole n)) k 0) back
     ∙ ap (λ (b : Bool). cond b n 0) (is-true (eq (whole n) (whole n)) (eq-self (whole n) n (whole-value n (omega arith))))
   where

@@ -1,8 +1,12 @@
--- The whole number that a length is.
+-- The whole number that a length is. RULES: Fill per thousand
 use Prim.Native.Nat.{ℕ}
 use mathlib.Core.Bool.{_&&_, cond}
 use lib.Ieee.{Float, binary64, ofBits, le, eq, toUnsigned}
 use Rattle.floats.specs.Whole.{whole}
+
+-- the longest side that counts
+abbrev pub mostSide : ℕ
+mostSide = 10000
 
 -- 1 and 10,000
 abbrev pub shortest : Float

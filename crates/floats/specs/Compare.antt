@@ -20,7 +20,8 @@ same-test false false f g = refl
 -- ---- how the tests on numbers stand to each other
 
 pub leb-split : (a b : ℕ) → (ltb a b || (eqb a b && true)) ≡ leb a b
-leb-split a b = same-test (ltb a b || (eqb a b && true)) (leb a b) (there (ltb a b) (eqb a b) (ltb→lt a b) (eqb→eq a b)) (λ t. back (ltb a b) (nltb→le a b) (leb→le a b t))
+leb-split a b = same-test (ltb a b || (eqb a b && true)) (leb a b) (there (ltb a b) (eqb a b) (ltb→lt a b) (eqb→eq a b))
+    (λ t. back (ltb a b) (nltb→le a b) (leb→le a b t))
   where
     there : (p q : Bool) → (T p → a < b) → (T q → a ≡ b) → T (p || (q && true)) → T (leb a b)
     there true q f g t = le→leb a b (weak (f tt))

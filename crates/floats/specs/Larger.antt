@@ -41,9 +41,11 @@ le-both f (fin s m e) nan p q h k = absurd h
 le-both f (fin s m e) (inf true) p q h k = absurd h
 le-both f (fin s m e) (inf false) p q h k = absurd k
 le-both f (fin false m e) (fin false n d) p q h k =
-    inl (cross-unique f false m e n d p q (le-antisymm (says false (m * up e * down d) false (n * up d * down e) h) (says false (n * up d * down e) false (m * up e * down d) k)))
+    inl (cross-unique f false m e n d p q
+    (le-antisymm (says false (m * up e * down d) false (n * up d * down e) h) (says false (n * up d * down e) false (m * up e * down d) k)))
 le-both f (fin true m e) (fin true n d) p q h k =
-    inl (cross-unique f true m e n d p q (le-antisymm (says true (n * up d * down e) true (m * up e * down d) k) (says true (m * up e * down d) true (n * up d * down e) h)))
+    inl (cross-unique f true m e n d p q
+    (le-antisymm (says true (n * up d * down e) true (m * up e * down d) k) (says true (m * up e * down d) true (n * up d * down e) h)))
 le-both f (fin false m e) (fin true n d) p q h k = let z = says false (m * up e * down d) true (n * up d * down e) h in inr (zeros m e n d z)
   where
     zeros : (m : ℕ) (e : ℤ) (n : ℕ) (d : ℤ) → m * up e * down d + n * up d * down e ≤ 0 → (m ≡ 0) × (n ≡ 0)
@@ -96,7 +98,8 @@ pub none-lt-zero : (v : Float) → isZero v → lt none v ≡ false
 unfolding ofBits
 none-lt-zero nan p = absurd p
 none-lt-zero (inf s) p = absurd p
-none-lt-zero (fin s m e) p = zero-lt-at false 0 (pos 0) s m e refl ∙ ap (λ (n : ℕ). not s && ltb 0 (n * up e)) p ∙ gone (not s) (ltb 0 (0 * up e)) (le-ltb 0 (0 * up e) (omega arith))
+none-lt-zero (fin s m e) p = zero-lt-at false 0 (pos 0) s m e refl ∙ ap (λ (n : ℕ). not s && ltb 0 (n * up e)) p ∙ gone (not s) (ltb 0 (0 * up e))
+    (le-ltb 0 (0 * up e) (omega arith))
   where
     gone : (a b : Bool) → b ≡ false → (a && b) ≡ false
     gone true b h = h

@@ -95,7 +95,8 @@ cond-signed s false x y p q = q
 
 units-signed : (f : Format) (s : Bool) (q k : ℕ) → signed s (units f s q k)
 unfolding units
-units-signed f s q k = cond-signed s (ltb (q * 2 ^ k) (2 ^ (low f + suc (emax f)))) (odd (suc (prec f)) s q k (low f)) (inf s) (odd-signed (suc (prec f)) s q k (low f)) refl
+units-signed f s q k = cond-signed s (ltb (q * 2 ^ k) (2 ^ (low f + suc (emax f)))) (odd (suc (prec f)) s q k (low f)) (inf s)
+    (odd-signed (suc (prec f)) s q k (low f)) refl
 
 pub round-signed : (f : Format) (s : Bool) (a c : ℕ) → signed s (round f s a c)
 unfolding round

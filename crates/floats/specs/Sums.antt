@@ -49,7 +49,8 @@ add-commutes f (inf s) (fin t n g) = refl
 add-commutes f (fin s m e) nan = refl
 add-commutes f (fin s m e) (inf t) = refl
 add-commutes f (fin s m e) (fin t n g) =
-    sum-comm f s (m * up e * down g) t (n * up g * down e) (down e * down g) ∙ ap (λ (z : ℕ). sum f t (n * up g * down e) s (m * up e * down g) z) (mul-comm (down e) (down g))
+    sum-comm f s (m * up e * down g) t (n * up g * down e) (down e * down g) ∙ ap (λ (z : ℕ). sum f t (n * up g * down e) s (m * up e * down g) z)
+    (mul-comm (down e) (down g))
 
 -- ---- terms that are not negative; an infinity may be among them, and the sum may overflow
 
@@ -86,4 +87,5 @@ add-grows f (fin true m e) (fin u o i) w p r = absurd (true≢false p)
 add-grows f (fin false m e) (fin true o i) w p r = absurd (true≢false r)
 add-grows f (fin false m e) (fin false o i) w p r =
     subst (λ (x : Float). T (le x (round f false (m * up e * down i + o * up i * down e) (down e * down i)))) (round-own f false m e w)
-    (round-mono f (m * up e) (down e) (m * up e * down i + o * up i * down e) (down e * down i) (down-pos e) (mul-pos (down-pos e) (down-pos i)) (more (m * up e) (down e) (o * up i) (down i)))
+    (round-mono f (m * up e) (down e) (m * up e * down i + o * up i * down e) (down e * down i) (down-pos e) (mul-pos (down-pos e) (down-pos i))
+    (more (m * up e) (down e) (o * up i) (down i)))

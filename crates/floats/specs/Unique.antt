@@ -1,7 +1,8 @@
 -- A format has one float for each value and sign, and `round` gives a float of the format back.
 use mathlib.Core.Path.{_≡_, refl, sym, ap, _∙_, subst}
 use Prim.Native.Nat.{ℕ, zero, suc, _+_, _-_, _*_, _%_, _^_, _≤_, _<_, zero-le}
-use native.Mathlib.Nat.{lt-irrefl, lt-of-not-le, not-le-of-lt, lt-of-lt-of-le, le-of-suc-le-suc, zero-lt-suc, mul-one, one-mul, zero-mul, mul-comm, mul-assoc, mul-left-comm, mul-right-comm, mul-pos, mul-lt-mul-of-pos-right, pow-suc, pow-succ', eq-of-mul-eq-mul-right, suc-inj}
+use native.Mathlib.Nat.{lt-irrefl, lt-of-not-le, not-le-of-lt, lt-of-lt-of-le, le-of-suc-le-suc, zero-lt-suc, mul-one, one-mul, zero-mul, mul-comm, mul-assoc}
+use native.Mathlib.Nat.{mul-left-comm, mul-right-comm, mul-pos, mul-lt-mul-of-pos-right, pow-suc, pow-succ', eq-of-mul-eq-mul-right, suc-inj}
 use native.Mathlib.Omega.{arith}
 use mathlib.Core.Bool.{Bool, _&&_}
 use lib.IntN.{ℤ, pos, negsuc}
@@ -39,7 +40,8 @@ unfolding fits
 zero-exp f s e t = flat e (eqb→eq (up e * down e) 1 t)
 
 -- ---- what `fits` says of a float that is not zero
-pub fit-says : (f : Format) (s : Bool) (m : ℕ) (e : ℤ) → T (fits f (fin s (suc m) e)) → (suc m % 2 ≡ 1) × (suc m < 2 ^ prec f) × (down e ≤ 2 ^ low f) × (suc m * up e < 2 ^ suc (emax f) * down e)
+pub fit-says : (f : Format) (s : Bool) (m : ℕ) (e : ℤ) → T (fits f (fin s (suc m) e))
+    → (suc m % 2 ≡ 1) × (suc m < 2 ^ prec f) × (down e ≤ 2 ^ low f) × (suc m * up e < 2 ^ suc (emax f) * down e)
 unfolding fits
 fit-says f s m e t =
     let a : Bool = eqb (suc m % 2) 1 in
@@ -47,8 +49,13 @@ fit-says f s m e t =
     let c : Bool = leb (down e) (2 ^ low f) in
     let d : Bool = ltb (suc m * up e) (2 ^ suc (emax f) * down e) in
     let abc : T (a && b && c) = and-l (a && b && c) d t in
-    let ab : T (a && b) = and-l (a && b) c abc in
-    (eqb→eq (suc m % 2) 1 (and-l a b ab), ltb→lt (suc m) (2 ^ prec f) (and-r a b ab), leb→le (down e) (2 ^ low f) (and-r (a && b) c abc), ltb→lt (suc m * up e) (2 ^ suc (emax f) * down e) (and-r (a && b && c) d t))
+    let ab : T (a && b) = and-l (a && b) c abc in (
+      eqb→eq (suc m % 2) 1 (and-l a b ab),
+      ltb→lt (suc m) (2 ^ prec f) (and-r a b ab),
+      leb→le (down e) (2 ^ low f) (and-r (a && b) c abc),
+      ltb→lt (suc m * up e)
+          (2 ^ suc (emax f) * down e) (and-r (a && b && c) d t),
+    )
 
 -- ---- one float for each value
 same-exp : (m n : ℕ) (e g : ℤ) → m % 2 ≡ 1 → n % 2 ≡ 1 → m * up e * down g ≡ n * up g * down e → (m ≡ n) × (e ≡ g)
@@ -56,17 +63,21 @@ same-exp m n (pos i) (pos j) o p h =
     let r = odd-pow m n i j o p (sym (mul-one (m * 2 ^ i)) ∙ h ∙ mul-one (n * 2 ^ j)) in
     (r .0, ap pos (r .1))
 same-exp m n (pos i) (negsuc j) o p h =
-    absurd (even-odd n (m * 2 ^ i * 2 ^ j) p (sym (mul-one n) ∙ sym (mul-one (n * 1)) ∙ sym h ∙ ap (λ (x : ℕ). m * 2 ^ i * x) (pow-succ' 2 j) ∙ mul-left-comm (m * 2 ^ i) 2 (2 ^ j)))
+    absurd (even-odd n (m * 2 ^ i * 2 ^ j) p
+    (sym (mul-one n) ∙ sym (mul-one (n * 1)) ∙ sym h ∙ ap (λ (x : ℕ). m * 2 ^ i * x) (pow-succ' 2 j) ∙ mul-left-comm (m * 2 ^ i) 2 (2 ^ j)))
 same-exp m n (negsuc i) (pos j) o p h =
-    absurd (even-odd m (n * 2 ^ j * 2 ^ i) o (sym (mul-one m) ∙ sym (mul-one (m * 1)) ∙ h ∙ ap (λ (x : ℕ). n * 2 ^ j * x) (pow-succ' 2 i) ∙ mul-left-comm (n * 2 ^ j) 2 (2 ^ i)))
+    absurd (even-odd m (n * 2 ^ j * 2 ^ i) o
+    (sym (mul-one m) ∙ sym (mul-one (m * 1)) ∙ h ∙ ap (λ (x : ℕ). n * 2 ^ j * x) (pow-succ' 2 i) ∙ mul-left-comm (n * 2 ^ j) 2 (2 ^ i)))
 same-exp m n (negsuc i) (negsuc j) o p h =
     let r = odd-pow m n (suc j) (suc i) o p (ap (λ (x : ℕ). x * 2 ^ suc j) (sym (mul-one m)) ∙ h ∙ ap (λ (x : ℕ). x * 2 ^ suc i) (mul-one n)) in
     (r .0, ap negsuc (sym (suc-inj (r .1))))
 
 not-zero : (n : ℕ) (e g : ℤ) → zero * up e * down g ≡ suc n * up g * down e → ⊥
-not-zero n e g h = lt-irrefl 0 (subst (λ (x : ℕ). 0 < x) (sym h ∙ ap (λ (y : ℕ). y * down g) (zero-mul (up e)) ∙ zero-mul (down g)) (mul-pos (mul-pos (zero-lt-suc n) (up-pos g)) (down-pos e)))
+not-zero n e g h = lt-irrefl 0 (subst (λ (x : ℕ). 0 < x) (sym h ∙ ap (λ (y : ℕ). y * down g) (zero-mul (up e)) ∙ zero-mul (down g))
+    (mul-pos (mul-pos (zero-lt-suc n) (up-pos g)) (down-pos e)))
 
-pub cross-unique : (f : Format) (s : Bool) (m : ℕ) (e : ℤ) (n : ℕ) (g : ℤ) → T (fits f (fin s m e)) → T (fits f (fin s n g)) → m * up e * down g ≡ n * up g * down e → fin s m e ≡ fin s n g
+pub cross-unique : (f : Format) (s : Bool) (m : ℕ) (e : ℤ) (n : ℕ) (g : ℤ) → T (fits f (fin s m e)) → T (fits f (fin s n g))
+    → m * up e * down g ≡ n * up g * down e → fin s m e ≡ fin s n g
 cross-unique f s zero e zero g p q h = ap (fin s zero) (zero-exp f s e p ∙ sym (zero-exp f s g q))
 cross-unique f s zero e (suc n) g p q h = absurd (not-zero n e g h)
 cross-unique f s (suc m) e zero g p q h = absurd (not-zero m g e (sym h))
@@ -85,7 +96,8 @@ unique f (fin t m e) nan s a c C p q v k = absurd k
 unique f (fin t m e) (inf u) s a c C p q v k = absurd k
 unique f (fin t m e) (fin u n g) s a c C p q v k =
     ap (λ (z : Bool). fin z m e) (v .0)
-    ∙ cross-unique f s m e n g (subst (λ (z : Bool). T (fits f (fin z m e))) (v .0) p) (subst (λ (z : Bool). T (fits f (fin z n g))) (k .0) q) (cross (m * up e) (down e) (n * up g) (down g) a c C (v .1) (k .1))
+    ∙ cross-unique f s m e n g (subst (λ (z : Bool). T (fits f (fin z m e))) (v .0) p) (subst (λ (z : Bool). T (fits f (fin z n g))) (k .0) q)
+    (cross (m * up e) (down e) (n * up g) (down g) a c C (v .1) (k .1))
     ∙ ap (λ (z : Bool). fin z n g) (sym (k .0))
 
 -- ---- n / 2 ^ k is a value of the format, where n has no more digits than the format keeps
@@ -101,16 +113,20 @@ dyadic f s n k h l = round-exact f s n (2 ^ k) n (low f - k) (pow-pos k) h
 pow-le : (i j : ℕ) → 2 ^ i ≤ 2 ^ j → i ≤ j
 pow-le i j h = le-of-suc-le-suc (lt-of-not-le (λ (g : suc j ≤ i). not-le-of-lt (pow-lt g) h))
 
-own-round : (f : Format) (s : Bool) (m : ℕ) (e : ℤ) → m < 2 ^ prec f → down e ≤ 2 ^ low f → m * up e < 2 ^ suc (emax f) * down e → HasValue (round f s (m * up e) (down e)) s (m * up e) (down e)
+own-round : (f : Format) (s : Bool) (m : ℕ) (e : ℤ) → m < 2 ^ prec f → down e ≤ 2 ^ low f → m * up e < 2 ^ suc (emax f) * down e
+    → HasValue (round f s (m * up e) (down e)) s (m * up e) (down e)
 own-round f s m (pos i) a b c =
     round-exact f s (m * 2 ^ i) 1 m (i + low f) (zero-lt-suc 0) a
     (subst (λ (x : ℕ). x < 2 ^ (low f + suc (emax f))) (sym is)
-    (subst (λ (x : ℕ). m * 2 ^ i * 2 ^ low f < x) (ap (λ (x : ℕ). x * 2 ^ low f) (mul-one (2 ^ suc (emax f))) ∙ mul-comm (2 ^ suc (emax f)) (2 ^ low f) ∙ sym (pow-add 2 (low f) (suc (emax f)))) (mul-lt-mul-of-pos-right c (pow-pos (low f)))))
+    (subst (λ (x : ℕ). m * 2 ^ i * 2 ^ low f < x)
+    (ap (λ (x : ℕ). x * 2 ^ low f) (mul-one (2 ^ suc (emax f))) ∙ mul-comm (2 ^ suc (emax f)) (2 ^ low f) ∙ sym (pow-add 2 (low f) (suc (emax f))))
+    (mul-lt-mul-of-pos-right c (pow-pos (low f)))))
     (sym is ∙ sym (mul-one (m * 2 ^ (i + low f))))
   where
     is : m * 2 ^ (i + low f) ≡ m * 2 ^ i * 2 ^ low f
     is = ap (λ (x : ℕ). m * x) (pow-add 2 i (low f)) ∙ sym (mul-assoc m (2 ^ i) (2 ^ low f))
-own-round f s m (negsuc i) a b c = subst (λ (x : ℕ). HasValue (round f s x (2 ^ suc i)) s x (2 ^ suc i)) (sym (mul-one m)) (dyadic f s m (suc i) a (pow-le (suc i) (low f) b))
+own-round f s m (negsuc i) a b c = subst (λ (x : ℕ). HasValue (round f s x (2 ^ suc i)) s x (2 ^ suc i)) (sym (mul-one m))
+    (dyadic f s m (suc i) a (pow-le (suc i) (low f) b))
 
 zero-round : (f : Format) (s : Bool) → HasValue (round f s 0 1) s 0 1
 zero-round f s = dyadic f s 0 0 (pow-pos (prec f)) zero-le

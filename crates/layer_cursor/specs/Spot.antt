@@ -1,33 +1,34 @@
--- Where a box would go next and the cursor after it (packing_utils.rs, `spot`), in the Rust's operation order. No slack anywhere.
+-- RULES: Second placer: cursor. Where a box would go next and the cursor after it (packing_utils.rs, `spot`), in the Rust's operation order. There
+-- is no slack anywhere.
 use mathlib.Core.Bool.{Bool, true, false, cond, _||_}
 use mathlib.Core.List.{List, [], _∷_}
 use lib.Ieee.{Float, lt}
 use Rattle.floats.specs.Ops as Ops
-use Rattle.floats.specs.Ops.{_⊕_, none, larger}
+use Rattle.floats.specs.Ops.{_⊕_, none, nowhere, larger}
 use Rattle.measures.specs.declared.Container.{Container}
 use Rattle.layer_cursor.specs.declared.LayerCursor.{LayerCursor}
 use Rattle.layer_cursor.specs.declared.LayerSpot.{LayerSpot}
 
--- 01: "If x + width is over the far limit: x to margin, y forward by row depth + spacing, row depth 0."
+-- A box too wide for the open row begins a new one: x at the margin, y on by the row's depth and the spacing (these two added first), no depth yet.
 unfoldable pub newRow : Container → List Float → LayerCursor → Float → LayerCursor
 newRow b max c width =
     cond (lt (Ops.x max) (c .x ⊕ width))
     (record { x = b .margin; y = c .y ⊕ (c .depth ⊕ b .spacing); z = c .z; depth = none; height = c .height })
     c
 
--- 01: "Then if y + depth is over: x and y to margin, z forward by layer height + spacing, both maxima 0."
+-- A box too deep for the open layer then begins a new one: x and y at the margin, z on by the layer's height and the spacing, no depth and no height yet.
 unfoldable pub newLayer : Container → List Float → LayerCursor → Float → LayerCursor
 newLayer b max c depth =
     cond (lt (Ops.y max) (c .y ⊕ depth))
     (record { x = b .margin; y = b .margin; z = c .z ⊕ (c .height ⊕ b .spacing); depth = none; height = none })
     c
 
--- 01: "If it is still over on some axis"
+-- a box at the cursor passes the far limit of some axis
 abbrev pub over : List Float → LayerCursor → List Float → Bool
 over max c size =
     lt (Ops.x max) (c .x ⊕ Ops.x size) || (lt (Ops.y max) (c .y ⊕ Ops.y size) || lt (Ops.z max) (c .z ⊕ Ops.z size))
 
--- 01: "otherwise x becomes x + width + spacing, and row depth and layer height rise to the box's where they are less"
+-- behind a box at the cursor: x on by its width, then by the spacing; the row is at least as deep as the box, the layer at least as high
 abbrev pub past : Container → LayerCursor → List Float → LayerCursor
 past b c size =
     record {
@@ -38,11 +39,7 @@ past b c size =
       height = larger (c .height) (Ops.z size);
     }
 
--- no position: what an answer holds where there is no box
-abbrev pub nowhere : List Float
-nowhere = none ∷ none ∷ none ∷ []
-
--- 01: "no, and the cursor stays"
+-- no: the cursor stays, and there is no position
 abbrev pub noSpot : LayerCursor → LayerSpot
 noSpot c = record { fits = false; at = nowhere; next = c }
 

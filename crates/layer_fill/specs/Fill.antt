@@ -1,4 +1,5 @@
--- The layer fill with its placements (packing_utils.rs, `LayerFill`), refusals included.
+-- The state of the second placer, the fill by layers, with its placements (packing_utils.rs, `LayerFill`), refusals included. The fill per thousand of a
+-- load file is another thing: `fill_thousand`.
 use mathlib.Core.Path.{_≡_, refl}
 use mathlib.Core.Bool.{Bool, true, false, cond}
 use mathlib.Core.List.{List, [], _∷_}
@@ -38,7 +39,7 @@ empty b = record { stand = newOf b; count = 0; lines = noLines }
 abbrev pub countAtFirst : Bool → ℕ
 countAtFirst faulty = cond faulty (mostBoxes + 1) 0
 
--- `new`: refused by 3 where the container block is
+-- `new`: refused by 3 where the container is. RULES: Refusals.
 abbrev pub opened : Container → Opening
 opened b =
     record { refused = when (containerFault b) 3; fill = record { stand = newOf b; count = countAtFirst (containerFault b); lines = noLines } }
@@ -58,7 +59,8 @@ took f s id instance = cond (s .fits) (pushed f s id instance) f
 abbrev pub noted : LayerFill → Step → ℕ → ℕ → Placing
 noted f s id instance = record { refused = 0; placed = s .fits; next = took f s id instance }
 
--- 01: "2 for .. state; .. then kind by kind 4, 3 ..; then 9, 8, 7": one kind repeats no other
+-- What a place call refuses, in this order: 2 for a fill that says it holds more than it can, 4 and 3 for the kind (a single kind repeats no other, so
+-- there is no 5), 7 for a full fill. RULES: Refusals.
 unfoldable pub placeRefusal : ℕ → Kind → ℕ
 placeRefusal count k = orElse (when (ltb mostBoxes count) 2) (orElse (kindFault k false) (when (eqb count mostBoxes) 7))
 
@@ -76,7 +78,7 @@ placed f k instance o = answered f k instance (placeOf (f .stand) k o)
 abbrev pub placedBest : LayerFill → Kind → ℕ → Placing
 placedBest f k instance = answered f k instance (placeBestOf (f .stand) k)
 
--- 01: "A state handed in with counts over these bounds gets 2"
+-- a fill that says it holds more than it can gets 2 from every call. RULES: Refusals.
 abbrev pub overFull : LayerFill → Bool
 overFull f = ltb mostBoxes (f .count)
 

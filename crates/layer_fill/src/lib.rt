@@ -2,6 +2,7 @@
 // the fill with its placements, one box at a time.
 ghost use mathlib.Core.Path.{_≡_};
 ghost use Prim.Native.Nat.{_<_};
+ghost use Rattle.domain.specs.Bounds.{mostBoxes};
 ghost use Rattle.layer_fill.specs.Fill.{placeRefusal, noLines, countAtFirst, noted, answered, opened, placed, placedBest, counted, filled, finished};
 use layer_state::Stand;
 use layer_state::Step;
@@ -61,13 +62,7 @@ fn place_refusal(count: usize, kind: Kind) -> u32
 fn no_lines() -> [Line; domain::MOST_BOXES]
     ensures { λ r. ⌜ r ≡ noLines ⌝ }
 {
-    let none = Line {
-        id: 0,
-        instance: 0,
-        orientation: 0,
-        bin: 0,
-        at: [0.0, 0.0, 0.0],
-    };
+    let none = sheet::blank_line();
     [none; domain::MOST_BOXES]
 }
 
@@ -83,7 +78,7 @@ fn count_at_first(faulty: bool) -> usize
 
 // The fill with the box that a step placed, or as it was.
 fn note(fill: LayerFill, step: Step, id: u32, instance: u32) -> Placing
-    requires { ⌜ fill .count < 256 ⌝ }
+    requires { ⌜ fill .count < mostBoxes ⌝ }
     ensures { λ r. ⌜ r ≡ noted fill step id instance ⌝ }
 {
     if step.fits {

@@ -1,10 +1,10 @@
--- The packing fitness (packing_utils.rs, `packing_fitness`), in the Rust's operation order.
-use mathlib.Core.Path.{_≡_}
-use mathlib.Core.Bool.{cond, not, _||_}
+-- RULES: Second placer: items. The packing fitness (packing_utils.rs, `packing_fitness`), in the Rust's operation order. Its fill is a utilization.
+use mathlib.Core.Path.{_≡_, refl}
+use mathlib.Core.Bool.{false, cond, not, _||_}
 use Prim.Native.Nat.{ℕ, _≤_}
 use borrow.Author.Tests.{ltb-false}
 use lib.Dec.{eqb, ltb}
-use lib.Ieee.{Float, binary64, ofBits}
+use lib.Ieee.{Float, binary64, ofBits, round}
 use Rattle.floats.specs.Ops.{_⊕_, _⊗_, _⊘_, none}
 use Rattle.floats.specs.Whole.{whole}
 use Rattle.domain.specs.Bounds.{mostBoxes}
@@ -14,11 +14,20 @@ use Rattle.lists.specs.Bools.{or-left, or-right}
 use Rattle.domain.specs.Laws.{or-else-first, when-none}
 use Rattle.layer_fitness.specs.declared.Fitness.{Fitness}
 
-abbrev hundred : Float
+-- the weights of the boxes and of the fill: 100 and 10
+abbrev pub hundred : Float
 hundred = ofBits binary64 0x4059000000000000
 
-abbrev ten : Float
+abbrev pub ten : Float
 ten = ofBits binary64 0x4024000000000000
+
+pub hundred-is : hundred ≡ round binary64 false 100 1
+unfolding ofBits round
+hundred-is = refl
+
+pub ten-is : ten ≡ round binary64 false 10 1
+unfolding ofBits round
+ten-is = refl
 
 -- the number, or 1 for 0: what a count is divided by
 abbrev pub atLeastOne : ℕ → ℕ
@@ -28,7 +37,7 @@ atLeastOne n = cond (eqb n 0) 1 n
 abbrev pub fitnessOf : ℕ → ℕ → Float → Float
 fitnessOf placed total fill = whole placed ⊘ whole (atLeastOne total) ⊗ hundred ⊕ fill ⊗ ten
 
--- 01: "Fitness takes two counts up to 256 (else 2) and a fill from 0 to 1,000,000,000 (else 3)."
+-- 2 for a count of more boxes than an order may have, then 3 for a fill out of its range. RULES: Refusals.
 unfoldable pub fitnessRefusal : ℕ → ℕ → Float → ℕ
 fitnessRefusal placed total fill = orElse (when (ltb mostBoxes placed || ltb mostBoxes total) 2) (when (not (isFill fill)) 3)
 

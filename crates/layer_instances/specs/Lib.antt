@@ -1,5 +1,4 @@
--- The instance list of an order, and the orientations that a sheet gives to one.
+-- The boxes of an order in a load file, and its instance list.
 pub mod Records
 pub mod Turns
 pub mod Instances
-pub mod Seeds

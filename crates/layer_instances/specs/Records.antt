@@ -10,7 +10,7 @@ use lib.ListN.{length, getD}
 abbrev pub recordsIn : List ℕ → ℕ
 recordsIn records = length records / 3
 
--- 01, number 9: "a given instance list holds a kind index past the order's kinds"
+-- a record's kind index is past the order's m kinds. RULES: Refusals, 9.
 unfoldable pub isStranger : List ℕ → ℕ → ℕ → Bool
 isStranger records m j = leb m (getD records (j * 3) 0)
 

@@ -1,29 +1,66 @@
--- The turns of an accepted order: each is of a kind that the store has.
+-- The boxes of the order in a load file, one after the other.
+use mathlib.Core.Path.{_≡_, refl, sym, _∙_, ap}
+use mathlib.Core.Bool.{cond}
 use mathlib.Core.List.{List}
 use Prim.Native.Nat.{ℕ, _<_, _≤_}
 use native.Mathlib.Omega.{arith}
-use Rattle.domain.specs.Bounds.{mostKinds}
+use borrow.Author.Tests.{le-ltb, lt-ltb}
+use lib.Dec.{ltb}
+use Rattle.domain.specs.Bounds.{mostKinds, mostBoxes}
+use Rattle.lists.specs.Below.{sumBelow, sum-same}
 use Rattle.measures.specs.declared.Kind.{Kind}
+use Rattle.sheet.specs.declared.Counts.{Counts}
 use Rattle.sheet.specs.declared.Sheet.{Sheet}
-use Rattle.sheet.specs.Sheets.{boxesIn}
+use Rattle.sheet.specs.Sheets.{quantityOf, boxesIn}
 use Rattle.sheet.specs.Accepted.{Accepted}
-use Rattle.plan_boxes.specs.Turns.{turnOf, Right, turn-right}
+use Rattle.file_read.specs.Form.{countsOf}
+use Rattle.file_read.specs.Reading.{sheetOf}
+use Rattle.file_read.specs.Records.{kindIn, Readable, bounds, many-is, kind-is}
+use Rattle.plan_boxes.specs.declared.Instance.{Instance}
+use Rattle.plan_boxes.specs.Turns.{nextTurn, turnOf, Right, turn-right}
 use Rattle.plan_boxes.specs.Orders.{some-boxes, boxes-are}
 
--- the kinds of the first n turns are in the store
-pub record InStore (kinds : List Kind) (n : ℕ) : Type 0 where
-  pub stored : (t : ℕ) → t < n → turnOf kinds t .kind < mostKinds
+-- the box behind one of a kind that has so many; a kind that no order has stays
+unfoldable pub nextBox : ℕ → Instance → Instance
+nextBox quantity u = cond (ltb (u .kind) mostKinds) (nextTurn quantity u) u
 
--- the turns of an accepted order are of its kinds
-pub turns-stored : (order : Sheet) → Accepted order → (n : ℕ) → n ≤ boxesIn (order .kinds) (order .many .kinds) → InStore (order .kinds) n
-turns-stored order a n h =
+pub next-box : (quantity : ℕ) (u : Instance) → u .kind < mostKinds → nextBox quantity u ≡ nextTurn quantity u
+unfolding nextBox
+next-box quantity u h = rw (lt-ltb (u .kind) mostKinds h)
+
+-- how many boxes kind k of a file has
+unfoldable pub quantityFrom : List ℕ → ℕ → ℕ
+quantityFrom f k = kindIn f k .quantity
+
+-- the boxes of m kinds of a file, and 0 for more kinds than there can be
+unfoldable pub boxesFrom : List ℕ → ℕ → ℕ
+boxesFrom f m = cond (ltb mostKinds m) 0 (sumBelow (quantityFrom f) m)
+
+-- of a file that can be read these are the boxes of its order
+pub boxes-from : (f : List ℕ) (m : ℕ) → Readable f → m ≡ countsOf f .kinds → boxesFrom f m ≡ boxesIn (sheetOf f .kinds) (sheetOf f .many .kinds)
+unfolding boxesFrom boxesIn quantityFrom quantityOf
+boxes-from f m r e =
+    let b = bounds f r in
+    let n = ap (λ (c : Counts). c .kinds) (many-is f) in
+    rw (e, ← n, le-ltb mostKinds (countsOf f .kinds) (b .kinds))
+    (sum-same (quantityFrom f) (quantityOf (sheetOf f .kinds)) (countsOf f .kinds) (λ k l. ap (λ (v : Kind). v .quantity) (kind-is f k r l)))
+
+-- a file that can be read, and as many boxes as its order has or fewer
+pub record InFile (f : List ℕ) (n : ℕ) : Type 0 where
+  pub can-read : Readable f
+  pub few : n ≤ mostBoxes
+  pub kind-within : (t : ℕ) → t < n → turnOf (sheetOf f .kinds) t .kind < countsOf f .kinds
+
+pub in-file : (f : List ℕ) (n : ℕ) → Readable f → Accepted (sheetOf f) → n ≤ boxesIn (sheetOf f .kinds) (sheetOf f .many .kinds) → InFile f n
+in-file f n r a h =
+    let e = boxes-are (sheetOf f) a in
+    let b = a .boxes-few in
     record {
-      stored =
+      can-read = r;
+      few = omega arith;
+      kind-within =
           λ t l.
-          let e = boxes-are order a in
-          let r : Right (order .kinds) (order .many .kinds) t (turnOf (order .kinds) t) =
-          turn-right (order .kinds) (order .many .kinds) (some-boxes order a) t (omega arith) in
-          let k = r .kind-is in
-          let f = a .few-of .kinds in
-          omega arith;
+          let k : Right (sheetOf f .kinds) (sheetOf f .many .kinds) t (turnOf (sheetOf f .kinds) t) =
+          turn-right (sheetOf f .kinds) (sheetOf f .many .kinds) (some-boxes (sheetOf f) a) t (omega arith) in
+          rw many-is (k .kind-is);
     }

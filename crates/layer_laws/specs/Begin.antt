@@ -69,11 +69,11 @@ pub record PlanBegins (p q : Plan) : Type 0 where
   pub few : p .placed ≤ q .placed
   pub same : (j : ℕ) → j < p .placed → getD (q .lines) j noLine ≡ getD (p .lines) j noLine
 
-plan-begins : (p q : Plan) (f g : LayerFill) → Made p f → Made q g → Begins f g → PlanBegins p q
-plan-begins p q f g m n b =
+plan-begins : (p q : Plan) (f g : LayerFill) (a b : ℕ) → Made p f a → Made q g b → Begins f g → PlanBegins p q
+plan-begins p q f g a b m n h =
     record {
-      few = rw (m .placed-are, n .placed-are) (b .few);
-      same = λ j l. rw (m .lines-are, n .lines-are) (b .same j (rw (m .placed-are) at l));
+      few = rw (m .placed-are, n .placed-are) (h .few);
+      same = λ j l. rw (m .lines-are, n .lines-are) (h .same j (rw (m .placed-are) at l));
     }
 
 smaller-mono : (a b t : ℕ) → a ≤ b → smaller a t ≤ smaller b t
@@ -93,7 +93,9 @@ fill-begins order a b h = go (eqb (sheetRefusal order) 0) refl
     go : (t : Bool) → eqb (sheetRefusal order) 0 ≡ t → PlanBegins (layerFillOf order a) (layerFillOf order b)
     go true e =
         let r = eqb-true (sheetRefusal order) 0 e in
-        plan-begins (layerFillOf order a) (layerFillOf order b) (fillTo order (number order a)) (fillTo order (number order b))
+        plan-begins (layerFillOf order a) (layerFillOf order b) (fillTo order (number order a)) (fillTo order (number order b)) (number order a)
+        (number order b)
         (fill-made order a r) (fill-made order b r)
-        (run-begins (empty (order .container)) (order .kinds) (bestOffer (order .kinds)) (number order a) (number order b) (smaller-mono a b (total order) h))
+        (run-begins (empty (order .container)) (order .kinds) (bestOffer (order .kinds)) (number order a) (number order b)
+        (smaller-mono a b (total order) h))
     go false e = rw e (record { few = le-refl 0; same = λ j l. absurd (not-suc-le-zero l) })

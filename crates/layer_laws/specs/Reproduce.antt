@@ -11,7 +11,7 @@ use native.Mathlib.Numerals.{add-one}
 use native.Mathlib.Omega.{arith}
 use borrow.Author.Tests.{eq-eqb, ne-eqb, eqb-true, eqb-false}
 use lib.Dec.{eqb}
-use lib.ListN.{length, getD, set, length-set}
+use lib.ListN.{length, getD, set}
 use lib.Seq.{getD-set-same, getD-set-other}
 use Rattle.domain.specs.Bounds.{mostBoxes}
 use Rattle.lists.specs.Below.{sumBelow}
@@ -24,19 +24,19 @@ use Rattle.sheet.specs.Sheets.{noKind, noLine, sameId, quantityOf}
 use Rattle.sheet.specs.Accepted.{Accepted}
 use Rattle.layer_state.specs.declared.stand.Step.{Step}
 use Rattle.layer_fill.specs.declared.LayerFill.{LayerFill}
-use Rattle.layer_fill.specs.Fill.{empty, lineOf, pushed, noLines, took}
+use Rattle.layer_fill.specs.Fill.{empty, lineOf, pushed, took}
 use Rattle.layer_state.specs.Stand.{placeOf}
 use Rattle.layer_state.specs.Best.{placeBestOf}
 use Rattle.layer_state.specs.Again.{seedFor, some-turn, best-again}
 use Rattle.layer_plan.specs.declared.offers.Offer.{Offer}
 use Rattle.layer_plan.specs.declared.offers.Way.the-variants.{Turned}
 use Rattle.plan_boxes.specs.Turns.{turnOf, Right, turn-right, by-order}
-use Rattle.lists.specs.Bools.{cond-keeps}
 use Rattle.layer_plan.specs.Run.{offered, runFrom, run-few}
 use Rattle.layer_plan.specs.Offers.{bestOffer}
+use Rattle.layer_plan.specs.Columns.{run-long}
 use Rattle.layer_fitness.specs.Fitness.{atLeastOne}
 use Rattle.plan_boxes.specs.Orders.{some-boxes}
-use Rattle.layer_instances.specs.Seeds.{seedOf}
+use Rattle.layer_seeds.specs.Seeds.{seedOf}
 use Rattle.layer_laws.specs.Made.{fillTo}
 
 -- ---- the box of a turn
@@ -64,8 +64,10 @@ module _ (order : Sheet) (a : Accepted order) where
   pub same-turn : (t u : ℕ) → t < sumBelow (quantityOf (order .kinds)) (order .many .kinds) → u < sumBelow (quantityOf (order .kinds)) (order .many .kinds)
       → boxId (order .kinds) t ≡ boxId (order .kinds) u → boxInstance (order .kinds) t ≡ boxInstance (order .kinds) u → t ≡ u
   same-turn t u ht hu e i =
-      let r : Right (order .kinds) (order .many .kinds) t (turnOf (order .kinds) t) = turn-right (order .kinds) (order .many .kinds) (some-boxes order a) t ht in
-      let s : Right (order .kinds) (order .many .kinds) u (turnOf (order .kinds) u) = turn-right (order .kinds) (order .many .kinds) (some-boxes order a) u hu in
+      let r : Right (order .kinds) (order .many .kinds) t (turnOf (order .kinds) t) =
+      turn-right (order .kinds) (order .many .kinds) (some-boxes order a) t ht in
+      let s : Right (order .kinds) (order .many .kinds) u (turnOf (order .kinds) u) =
+      turn-right (order .kinds) (order .many .kinds) (some-boxes order a) u hu in
       let k : turnOf (order .kinds) t .kind ≡ turnOf (order .kinds) u .kind =
       same-kind-of (turnOf (order .kinds) u .kind) (turnOf (order .kinds) t .kind) (s .kind-is) (r .kind-is) e in
       let p = r .place-is in
@@ -90,15 +92,21 @@ module _ (f : LayerFill) (s : Step) (id instance id′ instance′ : ℕ) (room 
       (rw (seed-before (f .lines) (f .count) (f .count) (lineOf s id instance) id′ instance′ (le-refl (f .count))))
 
   pub took-seed : seedOf (took f s id instance .lines) (took f s id instance .count) id′ instance′
-      ≡ cond (s .fits) (cond (eqb id id′ && eqb instance instance′) (s .orientation) (seedOf (f .lines) (f .count) id′ instance′)) (seedOf (f .lines) (f .count) id′ instance′)
+      ≡ cond (s .fits) (cond (eqb id id′ && eqb instance instance′) (s .orientation) (seedOf (f .lines) (f .count) id′ instance′))
+      (seedOf (f .lines) (f .count) id′ instance′)
   unfolding took
   took-seed = go (s .fits)
     where
       go : (b : Bool)
           → seedOf (cond b (pushed f s id instance) f .lines) (cond b (pushed f s id instance) f .count) id′ instance′
-          ≡ cond b (cond (eqb id id′ && eqb instance instance′) (s .orientation) (seedOf (f .lines) (f .count) id′ instance′)) (seedOf (f .lines) (f .count) id′ instance′)
+          ≡ cond b (cond (eqb id id′ && eqb instance instance′) (s .orientation) (seedOf (f .lines) (f .count) id′ instance′))
+          (seedOf (f .lines) (f .count) id′ instance′)
       go true = pushed-seed
       go false = refl
+
+-- whether two turns have one box
+abbrev pub oneBox : Sheet → ℕ → ℕ → Bool
+oneBox order n t = eqb (boxId (order .kinds) n) (boxId (order .kinds) t) && eqb (boxInstance (order .kinds) n) (boxInstance (order .kinds) t)
 
 -- ---- the fill over n boxes, box by box
 abbrev pub boxesOf : Sheet → ℕ
@@ -116,17 +124,8 @@ fill-next : (order : Sheet) (n : ℕ) → fillTo order (suc n) ≡ took (fillTo 
 unfolding runFrom offered bestOffer
 fill-next order n = refl
 
-took-long : (f : LayerFill) (s : Step) (id instance : ℕ) → length (took f s id instance .lines) ≡ length (f .lines)
-unfolding took
-took-long f s id instance = cond-keeps (λ (g : LayerFill). length (g .lines) ≡ length (f .lines)) (s .fits) (length-set (f .lines) (f .count) (lineOf s id instance)) refl
-
 fill-long : (order : Sheet) (n : ℕ) → length (fillTo order n .lines) ≡ mostBoxes
-unfolding runFrom noLines
-fill-long order zero = refl
-fill-long order (suc n) =
-    ap (λ (f : LayerFill). length (f .lines)) (fill-next order n)
-    ∙ took-long (fillTo order n) (stepAt order n) (boxId (order .kinds) n) (boxInstance (order .kinds) n)
-    ∙ fill-long order n
+fill-long order n = run-long (order .container) (order .kinds) (bestOffer (order .kinds)) n
 
 cond-same : {A : Type 0} (b : Bool) (x : A) → cond b x x ≡ x
 cond-same true x = refl
@@ -136,22 +135,27 @@ module _ (order : Sheet) (a : Accepted order) where
   seed-next : (n t : ℕ) → n < boxesOf order
       → seedIn order (suc n) t
       ≡ cond (stepAt order n .fits)
-      (cond (eqb (boxId (order .kinds) n) (boxId (order .kinds) t) && eqb (boxInstance (order .kinds) n) (boxInstance (order .kinds) t)) (stepAt order n .orientation) (seedIn order n t))
+      (cond (oneBox order n t) (stepAt order n .orientation) (seedIn order n t))
       (seedIn order n t)
   seed-next n t h =
       let c = run-few (empty (order .container)) (order .kinds) (bestOffer (order .kinds)) n in
       let l = fill-long order n in
       let m = a .boxes-few in
       ap (λ (f : LayerFill). seedOf (f .lines) (f .count) (boxId (order .kinds) t) (boxInstance (order .kinds) t)) (fill-next order n)
-      ∙ took-seed (fillTo order n) (stepAt order n) (boxId (order .kinds) n) (boxInstance (order .kinds) n) (boxId (order .kinds) t) (boxInstance (order .kinds) t) (omega arith)
+      ∙ took-seed (fillTo order n) (stepAt order n) (boxId (order .kinds) n) (boxInstance (order .kinds) n) (boxId (order .kinds) t)
+      (boxInstance (order .kinds) t) (omega arith)
 
   -- another turn's box is not this one
-  differs : (n t : ℕ) → n < boxesOf order → t < boxesOf order → (n ≡ t → ⊥)
-      → (eqb (boxId (order .kinds) n) (boxId (order .kinds) t) && eqb (boxInstance (order .kinds) n) (boxInstance (order .kinds) t)) ≡ false
+  differs : (n t : ℕ) → n < boxesOf order → t < boxesOf order → (n ≡ t → ⊥) → oneBox order n t ≡ false
   differs n t h i d = go (eqb (boxId (order .kinds) n) (boxId (order .kinds) t)) (eqb (boxInstance (order .kinds) n) (boxInstance (order .kinds) t)) refl refl
     where
-      go : (p q : Bool) → eqb (boxId (order .kinds) n) (boxId (order .kinds) t) ≡ p → eqb (boxInstance (order .kinds) n) (boxInstance (order .kinds) t) ≡ q → (p && q) ≡ false
-      go true true e f = absurd (d (same-turn order a n t h i (eqb-true (boxId (order .kinds) n) (boxId (order .kinds) t) e) (eqb-true (boxInstance (order .kinds) n) (boxInstance (order .kinds) t) f)))
+      go : (p q : Bool) → eqb (boxId (order .kinds) n) (boxId (order .kinds) t) ≡ p
+          → eqb (boxInstance (order .kinds) n) (boxInstance (order .kinds) t) ≡ q → (p && q) ≡ false
+      go true true e f =
+          absurd
+          (d
+          (same-turn order a n t h i (eqb-true (boxId (order .kinds) n) (boxId (order .kinds) t) e)
+          (eqb-true (boxInstance (order .kinds) n) (boxInstance (order .kinds) t) f)))
       go true false e f = refl
       go false q e f = refl
 
@@ -167,7 +171,11 @@ module _ (order : Sheet) (a : Accepted order) where
   seed-own : (t : ℕ) → t < boxesOf order → seedIn order (suc t) t ≡ seedFor (stepAt order t)
   seed-own t i =
       seed-next t t i
-      ∙ rw (eq-eqb (boxId (order .kinds) t) (boxId (order .kinds) t) refl, eq-eqb (boxInstance (order .kinds) t) (boxInstance (order .kinds) t) refl, seed-later t t (le-refl t) i)
+      ∙ rw (
+        eq-eqb (boxId (order .kinds) t) (boxId (order .kinds) t) refl,
+        eq-eqb (boxInstance (order .kinds) t) (boxInstance (order .kinds) t) refl,
+        seed-later t t (le-refl t) i,
+      )
 
   -- after it, what became of it
   pub seed-kept : (n t : ℕ) → t < n → n ≤ boxesOf order → seedIn order n t ≡ seedFor (stepAt order t)
@@ -191,12 +199,14 @@ one-least n h = rw (ne-eqb n 0 (λ e. omega arith))
 
 module _ (order : Sheet) (a : Accepted order) (n : ℕ) (whole : n ≤ boxesOf order) where
   step-again : (t : ℕ) → t < n
-      → placeOf (fillTo order t .stand) (kindOf (order .kinds) t) (seedIn order n t % atLeastOne (length (shareOf (kindOf (order .kinds) t .rule)))) ≡ stepAt order t
+      → placeOf (fillTo order t .stand) (kindOf (order .kinds) t) (seedIn order n t % atLeastOne (length (shareOf (kindOf (order .kinds) t .rule))))
+      ≡ stepAt order t
   step-again t l =
       rw (seed-kept order a n t l whole, one-least (length (shareOf (kindOf (order .kinds) t .rule))) (some-turn (kindOf (order .kinds) t .rule)))
       (best-again (fillTo order t .stand) (kindOf (order .kinds) t))
 
-  offer-again : (t : ℕ) → t < n → offered (fillTo order t) (order .kinds) (seededOffer order n t) ≡ offered (fillTo order t) (order .kinds) (bestOffer (order .kinds) t)
+  offer-again : (t : ℕ) → t < n
+      → offered (fillTo order t) (order .kinds) (seededOffer order n t) ≡ offered (fillTo order t) (order .kinds) (bestOffer (order .kinds) t)
   unfolding offered seededOffer bestOffer
   offer-again t l = ap (λ (r : Step). took (fillTo order t) r (boxId (order .kinds) t) (boxInstance (order .kinds) t)) (step-again t l)
 

@@ -1,4 +1,4 @@
--- The answer to one box at a lent cursor, and the cursor after it.
+-- RULES: Second placer: cursor. The answer to one box at a lent cursor, and the cursor after it.
 use mathlib.Core.Path.{_≡_, refl}
 use mathlib.Core.Bool.{Bool, true, false, cond, not, _||_}
 use mathlib.Core.List.{List}
@@ -14,11 +14,11 @@ use Rattle.layer_state.specs.Stand.{newOf}
 use Rattle.layer_lent.specs.declared.Asked.{Asked}
 use Rattle.layer_lent.specs.declared.Answer.{Answer}
 
--- 01: "Lengths of kinds and container: 0.000001 to 1,000,000,000."
+-- one of three lengths is out of range. RULES: Ranges.
 abbrev pub lengthsFault : List Float → Bool
 lengthsFault size = not (isLength (x size)) || (not (isLength (y size)) || not (isLength (z size)))
 
--- 01, number 3: "a measure or position is outside its range". The cursor is a state, and "the floats in a state aren't tested".
+-- What is refused by 3. The cursor is a state: the floats in one are not tested. RULES: Refusals.
 abbrev pub askedFault : Asked → Bool
 askedFault a = containerFault (a .container) || lengthsFault (a .size)
 
@@ -26,7 +26,7 @@ askedFault a = containerFault (a .container) || lengthsFault (a .size)
 abbrev pub spotFor : LayerCursor → Asked → LayerSpot
 spotFor c a = spotOf (a .container) (newOf (a .container) .max) c (a .size)
 
--- The refusal, or the spot. The cursor afterwards is `spot .next` of it: 01, "the cursor lent mutably and moved on by each box placed".
+-- The refusal, or the spot. The cursor afterwards is `spot .next` of it: a box that is placed moves it on, and any other answer leaves it.
 unfoldable pub askedSpot : LayerCursor → Asked → Answer
 askedSpot c a = cond (askedFault a) (record { refused = 3; spot = noSpot c }) (record { refused = 0; spot = spotFor c a })
 
@@ -35,8 +35,9 @@ pub accepted-spot : (c : LayerCursor) (a : Asked) → askedFault a ≡ false →
 unfolding askedSpot
 accepted-spot c a e = rw e
 
--- ---- 01: "no, and the cursor stays", and a refusal leaves it too
-chosen-no : (b : Bool) (c : LayerCursor) (p : LayerSpot) → (p .fits ≡ false → p ≡ noSpot c) → cond b (noSpot c) p .fits ≡ false → cond b (noSpot c) p ≡ noSpot c
+-- ---- a box that gets no, and a refused one, leave the cursor as it was
+chosen-no : (b : Bool) (c : LayerCursor) (p : LayerSpot) → (p .fits ≡ false → p ≡ noSpot c)
+    → cond b (noSpot c) p .fits ≡ false → cond b (noSpot c) p ≡ noSpot c
 chosen-no true c p stays h = refl
 chosen-no false c p stays h = stays h
 

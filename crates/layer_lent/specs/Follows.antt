@@ -7,7 +7,7 @@ use lib.Dec.{eqb, ltb}
 use lib.Ieee.{Float}
 use lib.ListN.{length, getD, set, length-set, length-replicate}
 use lib.Seq.{getD-set-same}
-use borrow.Author.Tests.{eqb-true}
+use borrow.Author.Tests.{eqb-true, eqb-false}
 use Rattle.floats.specs.Ops.{x, y, z}
 use Rattle.domain.specs.Bounds.{mostBoxes}
 use Rattle.domain.specs.Ranges.{isLength}
@@ -36,7 +36,7 @@ use Rattle.layer_lent.specs.Steps.{Made, made-place, made-best}
 
 -- ---- the two ways
 
--- a box offered to a fill_thousand: an instance of a kind in one orientation (`place`), or in its best (`place_best`)
+-- a box offered to a fill: an instance of a kind in one orientation (`place`), or in its best (`place_best`)
 pub data Offer : Type 0 where
   turned : Kind → ℕ → ℕ → Offer
   best : Kind → ℕ → Offer
@@ -98,21 +98,21 @@ lengths-right k o h =
 -- ---- one box
 
 -- what a fill's answer can be: the box taken, or everything as it was
-answer-cases : (f : LayerFill) (k : Kind) (instance : ℕ) (t : Step) (P : Placing → Type 0)
+pub answer-cases : (f : LayerFill) (k : Kind) (instance : ℕ) (t : Step) (P : Placing → Type 0)
     → (placeRefusal (f .count) k ≡ 0 → t .fits ≡ true → P (record { refused = 0; placed = true; next = pushed f t (k .id) instance }))
-    → ((n : ℕ) → P (record { refused = n; placed = false; next = f }))
+    → ((n : ℕ) → (n ≡ 0 → (placeRefusal (f .count) k ≡ 0) × (t .fits ≡ false)) → P (record { refused = n; placed = false; next = f }))
     → P (answered f k instance t)
 unfolding answered took
 answer-cases f k instance t P it-took it-left = go (eqb (placeRefusal (f .count) k) 0) refl
   where
     offered : placeRefusal (f .count) k ≡ 0 → (b : Bool) → t .fits ≡ b → P (record { refused = 0; placed = b; next = cond b (pushed f t (k .id) instance) f })
     offered r true e = it-took r e
-    offered r false e = it-left 0
+    offered r false e = it-left 0 (λ _. (r, e))
 
     go : (b : Bool) → eqb (placeRefusal (f .count) k) 0 ≡ b
         → P (cond b (noted f t (k .id) instance) (record { refused = placeRefusal (f .count) k; placed = false; next = f }))
     go true e = offered (eqb-true (placeRefusal (f .count) k) 0 e) (t .fits) refl
-    go false e = it-left (placeRefusal (f .count) k)
+    go false e = it-left (placeRefusal (f .count) k) (λ z. absurd (eqb-false (placeRefusal (f .count) k) 0 e z))
 
 -- the answer of a lent cursor that goes with a box that the fill f placed: the position of the box's line, and the fill's cursor after it
 abbrev pub sameAs : LayerFill → Placing → Answer
@@ -152,10 +152,11 @@ taken f k instance t fair m r fits =
       stays = λ h. cc;
     }
 
-answers-step : (f : LayerFill) (k : Kind) (instance : ℕ) (t : Step) → Fair f → Made (f .stand) k t → Answers f (askedBy (f .stand) k (t .orientation)) (answered f k instance t)
+answers-step : (f : LayerFill) (k : Kind) (instance : ℕ) (t : Step) → Fair f → Made (f .stand) k t
+    → Answers f (askedBy (f .stand) k (t .orientation)) (answered f k instance t)
 answers-step f k instance t fair m =
     answer-cases f k instance t (Answers f (askedBy (f .stand) k (t .orientation))) (taken f k instance t fair m)
-    (λ n. record { fair-next = fair; moves = λ h. cc; stays = λ h. refl })
+    (λ n _. record { fair-next = fair; moves = λ h. cc; stays = λ h. refl })
 
 pub answers : (f : LayerFill) (w : Offer) → Fair f → Answers f (askedFor f w) (answerTo f w)
 answers f (turned k instance o) fair = answers-step f k instance (placeOf (f .stand) k o) fair (made-place (f .stand) k o)

@@ -35,7 +35,8 @@ made-turned : (s : Stand) (k : Kind) (o : ℕ) → Made s k (turnedOf s k o)
 unfolding settled
 made-turned s k o = go (spotIn s k o .fits) refl
   where
-    go : (b : Bool) → spotIn s k o .fits ≡ b → Made s k (cond b (record { fits = true; orientation = o; at = spotIn s k o .at; next = committed s k (spotIn s k o) }) (noStep s))
+    go : (b : Bool) → spotIn s k o .fits ≡ b
+        → Made s k (cond b (record { fits = true; orientation = o; at = spotIn s k o .at; next = committed s k (spotIn s k o) }) (noStep s))
     go true e = record { container-kept = refl; limits-kept = refl; spot-taken = λ h. told (spotIn s k o) e }
     go false e = made-none s k
 

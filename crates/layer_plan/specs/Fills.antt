@@ -29,7 +29,7 @@ pub use Rattle.plan_sheet.specs.Boxes.{smaller-le}
 use Rattle.plan_sheet.specs.Plans.{refusedPlan, plannedOf}
 use Rattle.layer_plan.specs.declared.offers.Offer.{Offer}
 use Rattle.layer_instances.specs.Records.{recordsIn, isStranger, stranger-not}
-use Rattle.layer_instances.specs.Turns.{InStore, turns-stored}
+use Rattle.layer_plan.specs.Turns.{InStore, turns-stored}
 use Rattle.plan_boxes.specs.Orders.{boxes-are}
 use Rattle.layer_plan.specs.Run.{Known, offerAt, noOffer, runBy}
 use Rattle.layer_plan.specs.Offers.{bestOffer, itemOffer, recordOffer, itemsIn, Listed, run-same}
@@ -42,20 +42,20 @@ planFrom kinds m f n = plannedOf kinds m (f .lines) (f .count) n (fillOf (f .sta
 abbrev pub planBy : Container → List Kind → ℕ → (ℕ → Offer) → ℕ → Plan
 planBy b kinds m offer n = planFrom kinds m (runBy b kinds offer n) n
 
--- 01: "in `layer_fill_in_order`, stands a number to consider"; "the smaller of that number and the total"
+-- The fill by layers of an order: its boxes in turn, as many as are to be considered or as there are, each in its best orientation. RULES: Plans.
 unfoldable pub layerFillOf : Sheet → ℕ → Plan
 layerFillOf order consider =
     cond (eqb (sheetRefusal order) 0)
     (planBy (order .container) (order .kinds) (order .many .kinds) (bestOffer (order .kinds)) (smaller consider (boxesIn (order .kinds) (order .many .kinds))))
     (refusedPlan (sheetRefusal order))
 
--- 01: "2 for .. items, instance records", then the order's own refusal, "then 9"
+-- in this order: 2 for too many items or records, what the order gets, 9 for a record of no kind of it. RULES: Refusals.
 unfoldable pub itemsRefusal : Sheet → List ℕ → List ℕ → ℕ
 itemsRefusal order records items =
     orElse (when (ltb mostItems (itemsIn items) || ltb mostInstances (recordsIn records)) 2)
     (orElse (sheetRefusal order) (when (anyBelow (isStranger records (order .many .kinds)) (recordsIn records)) 9))
 
--- 01: "a number to consider, skipped ones included"
+-- The plan of given items, as many as are to be considered or as there are; one that is skipped counts too. RULES: Second placer: items.
 unfoldable pub placeItemsOf : Sheet → List ℕ → List ℕ → ℕ → Plan
 placeItemsOf order records items consider =
     cond (eqb (itemsRefusal order records items) 0)
@@ -75,10 +75,15 @@ turns-right order a consider =
     let l = smaller-le consider (boxesIn (order .kinds) (order .many .kinds)) in
     let e = boxes-are order a in
     let f = a .boxes-few in
-    record { container-right = a .container-right; few = omega arith; kinds-stored = turns-stored order a (smaller consider (boxesIn (order .kinds) (order .many .kinds))) l }
+    record {
+      container-right = a .container-right;
+      few = omega arith;
+      kinds-stored = turns-stored order a (smaller consider (boxesIn (order .kinds) (order .many .kinds))) l;
+    }
 
 -- a list of offers of stored kinds
-pub listed-known : (offer : ℕ → Offer) (n : ℕ) (offers : List Offer) → Listed offer n offers → ((t : ℕ) → t < n → offer t .kind < mostKinds) → Known (offerAt offers) n
+pub listed-known : (offer : ℕ → Offer) (n : ℕ) (offers : List Offer) → Listed offer n offers
+    → ((t : ℕ) → t < n → offer t .kind < mostKinds) → Known (offerAt offers) n
 listed-known offer n offers l h = record { known = λ t k. rw (l .same t k) (h t k) }
 
 -- a plan by a list of offers is the plan by the offers
@@ -92,7 +97,8 @@ pub record ItemsRight (order : Sheet) (records items : List ℕ) : Type 0 where
   pub few : itemsIn items ≤ mostItems
   pub known : (j : ℕ) → itemOffer records items j .kind < mostKinds
 
-item-known : (records items : List ℕ) (m j : ℕ) → m ≤ mostKinds → anyBelow (isStranger records m) (recordsIn records) ≡ false → itemOffer records items j .kind < mostKinds
+item-known : (records items : List ℕ) (m j : ℕ) → m ≤ mostKinds → anyBelow (isStranger records m) (recordsIn records) ≡ false
+    → itemOffer records items j .kind < mostKinds
 unfolding itemOffer
 item-known records items m j few h = go (ltb (getD items (j * 2) 0) (recordsIn records)) refl
   where

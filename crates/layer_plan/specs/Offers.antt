@@ -37,7 +37,7 @@ abbrev pub recordOffer : List ℕ → ℕ → ℕ → Offer
 recordOffer records p o =
     record { kind = getD records (p * 3) 0; instance = getD records (p * 3 + 1) 0; way = Turned (o % atLeastOne (getD records (p * 3 + 2) 0)) }
 
--- 01: "skips an item whose place is past the instance list"
+-- an item whose place is past the instance list is skipped. RULES: Second placer: items.
 unfoldable pub itemOffer : List ℕ → List ℕ → ℕ → Offer
 itemOffer records items j =
     cond (ltb (getD items (j * 2) 0) (recordsIn records)) (recordOffer records (getD items (j * 2) 0) (getD items (j * 2 + 1) 0)) noOffer

@@ -1,4 +1,4 @@
-// What the turns of a run offer to the fill_thousand: a kind, an instance of it, and how it may be turned.
+// What the turns of a run offer to the fill by layers: a kind, an instance of it, and how it may be turned.
 ghost use mathlib.Core.Path.{_≡_};
 ghost use Prim.Native.Nat.{_+_, _*_, _≤_, _<_};
 ghost use lib.ListN.{length};

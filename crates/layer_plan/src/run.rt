@@ -96,7 +96,7 @@ fn plan_of(
     plan_sheet::planned(kinds, m, lines, fill.count, n as u64, stand.utilization())
 }
 
-// The layer fill_thousand: every instance of an order in listing order, each in its best orientation, as far as `consider` goes.
+// The fill by layers: every instance of an order in listing order, each in its best orientation, as far as `consider` goes.
 pub fn layer_fill(order: Sheet, consider: u64) -> Plan
     ensures { λ r. ⌜ r ≡ layerFillOf order consider ⌝ }
 {

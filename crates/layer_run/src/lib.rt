@@ -10,7 +10,8 @@ use sheet::Sheet;
 
 // The layer fill into lent words, six to a line.
 pub fn layer_fill_in_order(order: Sheet, consider: u64, slots: &mut [u64]) -> Packed
-    ensures { λ r. ⌜ (r ≡ handedOf (layerFillOf order consider) (length (now (slots .entry)))) × (now (slots .exit) ≡ slotsOf (layerFillOf order consider) (now (slots .entry))) ⌝ }
+    ensures { λ r. ⌜ (r ≡ handedOf (layerFillOf order consider) (length (now (slots .entry))))
+        × (now (slots .exit) ≡ slotsOf (layerFillOf order consider) (now (slots .entry))) ⌝ }
 {
     let p = layer_fill(order, consider);
     plan_sheet::hand_out(p, slots)
@@ -24,7 +25,8 @@ pub fn layer_place_items(
     consider: u64,
     slots: &mut [u64],
 ) -> Packed
-    ensures { λ r. ⌜ (r ≡ handedOf (placeItemsOf order (now (records .entry)) (now (items .entry)) consider) (length (now (slots .entry)))) × (now (slots .exit) ≡ slotsOf (placeItemsOf order (now (records .entry)) (now (items .entry)) consider) (now (slots .entry))) ⌝ }
+    ensures { λ r. ⌜ (r ≡ handedOf (placeItemsOf order (now (records .entry)) (now (items .entry)) consider) (length (now (slots .entry))))
+        × (now (slots .exit) ≡ slotsOf (placeItemsOf order (now (records .entry)) (now (items .entry)) consider) (now (slots .entry))) ⌝ }
 {
     let p = place_items(order, records, items, consider);
     plan_sheet::hand_out(p, slots)

@@ -105,7 +105,8 @@ module _ (s : Stand) (k : Kind) where
       o = bestFor s k .orientation
 
       go : (m f : Bool) → bestFor s k .found ≡ f
-          → cond m (turnedOf s k (seedFor (cond m (cond f (turnedOf s k o) (noStep s)) (noStep s)) % n)) (noStep s) ≡ cond m (cond f (turnedOf s k o) (noStep s)) (noStep s)
+          → cond m (turnedOf s k (seedFor (cond m (cond f (turnedOf s k o) (noStep s)) (noStep s)) % n)) (noStep s)
+          ≡ cond m (cond f (turnedOf s k o) (noStep s)) (noStep s)
       go false f h = refl
       go true true h =
           ap (λ (i : ℕ). turnedOf s k i) (ap (λ (i : ℕ). i % n) (turned-seed o (c .it-fits h)) ∙ mod-eq-of-lt (c .in-range h))

@@ -1,11 +1,11 @@
--- The best of the allowed orientations (packing_utils.rs, `place_best`).
-use mathlib.Core.Path.{_≡_}
+-- RULES: Second placer: best orientation. The best of the orientations that a kind may have (packing_utils.rs, `place_best`).
+use mathlib.Core.Path.{_≡_, refl}
 use mathlib.Core.Bool.{Bool, true, false, cond, not, _&&_, _||_}
 use mathlib.Core.List.{List}
 use Prim.Native.Nat.{ℕ, zero, suc, _≤_}
 use native.Mathlib.Omega.{arith}
 use lib.ListN.{length}
-use lib.Ieee.{Float, binary64, ofBits, lt}
+use lib.Ieee.{Float, binary64, ofBits, round, lt}
 use Rattle.floats.specs.Ops.{_⊕_, _⊗_, none, x, y, z}
 use Rattle.measures.specs.declared.Container.{Container}
 use Rattle.measures.specs.declared.Kind.{Kind}
@@ -18,16 +18,29 @@ use Rattle.layer_state.specs.declared.best.Best.{Best}
 use Rattle.layer_cursor.specs.Spot.{spotOf}
 use Rattle.layer_state.specs.Stand.{massAllows, turnedOf, noStep, ruled-stays, turned-stays}
 
-abbrev million : Float
+-- the weights of the score: 1,000,000, 1,000 and the float nearest to a tenth
+abbrev pub million : Float
 million = ofBits binary64 0x412E848000000000
 
-abbrev thousand : Float
+abbrev pub thousand : Float
 thousand = ofBits binary64 0x408F400000000000
 
-abbrev tenth : Float
+abbrev pub tenth : Float
 tenth = ofBits binary64 0x3FB999999999999A
 
--- 01: "z·1,000,000 + y·1,000 + x + height·0.1, summed left to right"
+pub million-is : million ≡ round binary64 false 1000000 1
+unfolding ofBits round
+million-is = refl
+
+pub thousand-is : thousand ≡ round binary64 false 1000 1
+unfolding ofBits round
+thousand-is = refl
+
+pub tenth-is : tenth ≡ round binary64 false 1 10
+unfolding ofBits round
+tenth-is = refl
+
+-- A spot's score, the less the better: z a million times, y a thousand times, x, and the box's height times a tenth, summed from the left.
 abbrev pub scoreOf : List Float → Float → Float
 scoreOf at height = z at ⊗ million ⊕ y at ⊗ thousand ⊕ x at ⊕ height ⊗ tenth
 
@@ -35,7 +48,7 @@ scoreOf at height = z at ⊗ million ⊕ y at ⊗ thousand ⊕ x at ⊕ height �
 abbrev pub noBest : Best
 noBest = record { found = false; orientation = 0; score = none }
 
--- 01: "the orientation of strictly least" score; "the first wins a tie": a later one must be less
+-- a later orientation takes the place of an earlier one only where its score is less, so that the first of equals stays
 unfoldable pub better : Best → LayerSpot → Float → ℕ → Best
 better b p height o =
     cond (p .fits && (not (b .found) || lt (scoreOf (p .at) height) (b .score)))
@@ -55,7 +68,7 @@ bestFor s k = bestOf (s .container) (s .max) (s .cursor) k (length (shareOf (k .
 abbrev pub bestStep : Stand → Kind → Step
 bestStep s k = cond (bestFor s k .found) (turnedOf s k (bestFor s k .orientation)) (noStep s)
 
--- 01: the mass rule "before any spot is sought"
+-- the mass is tested before a spot is looked for. RULES: Second placer: mass.
 unfoldable pub placeBestOf : Stand → Kind → Step
 placeBestOf s k = cond (massAllows s k) (bestStep s k) (noStep s)
 

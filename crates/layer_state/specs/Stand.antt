@@ -3,19 +3,20 @@ use mathlib.Core.Path.{_≡_, refl}
 use mathlib.Core.Bool.{Bool, true, false, cond, not, _&&_, _||_}
 use mathlib.Core.List.{List, [], _∷_}
 use Prim.Native.Nat.{ℕ}
-use lib.Dec.{eqb}
 use lib.Ieee.{Float, lt, le}
-use Rattle.floats.specs.Ops.{_⊕_, _⊖_, _⊘_, none, x, y, z}
+use Rattle.floats.specs.Ops.{_⊕_, _⊖_, _⊘_, none, nowhere, x, y, z}
 use Rattle.measures.specs.declared.Container.{Container}
 use Rattle.measures.specs.declared.Kind.{Kind}
+use Rattle.measures.specs.Asked.{hasMass}
 use Rattle.measures.specs.Orders.{lengthsIn}
 use Rattle.measures.specs.Volume.{volume}
 use Rattle.layer_cursor.specs.declared.LayerSpot.{LayerSpot}
 use Rattle.layer_state.specs.declared.stand.Stand.{Stand}
 use Rattle.layer_state.specs.declared.stand.Step.{Step}
-use Rattle.layer_cursor.specs.Spot.{spotOf, nowhere}
+use Rattle.layer_cursor.specs.Spot.{spotOf}
 
--- packing_utils.rs, `new`: far limits are container − margin; the cursor is at the margin on each axis, and row depth and layer height are 0
+-- An empty container (packing_utils.rs, `new`): the far limits are its lengths less the margin, the cursor is at the margin on each axis, and the open
+-- row and layer have no depth and no height. RULES: Second placer: cursor.
 abbrev pub newOf : Container → Stand
 newOf b =
     record {
@@ -26,15 +27,16 @@ newOf b =
       mass = none;
     }
 
--- 01: "A mass that brings the total over the limit gets no", where there is a limit and the kind has a mass
+-- Where there is a limit, a box with a mass may bring the load to it and no further; a box without one is always allowed. RULES: Second placer: mass.
 abbrev pub massAllows : Stand → Kind → Bool
-massAllows s k = not (lt none (s .container .limit) && not (eqb (k .massed) 0)) || le (s .mass ⊕ k .mass) (s .container .limit)
+massAllows s k = not (lt none (s .container .limit) && hasMass (k .massed)) || le (s .mass ⊕ k .mass) (s .container .limit)
 
 -- where a box of this kind would go in an orientation
 abbrev pub spotIn : Stand → Kind → ℕ → LayerSpot
 spotIn s k o = spotOf (s .container) (s .max) (s .cursor) (lengthsIn k o)
 
--- 01: "Volume here is the unrotated product". A kind without a mass has +0 there.
+-- The stand with a box on a spot. This placer adds the product of the kind's lengths as they are given, whichever way the box is turned; the mass of
+-- a kind without one is +0. RULES: Volume and mass.
 abbrev pub committed : Stand → Kind → LayerSpot → Stand
 committed s k p =
     record { container = s .container; max = s .max; cursor = p .next; volume = s .volume ⊕ volume (k .size); mass = s .mass ⊕ k .mass }
@@ -50,18 +52,19 @@ settled s k o p = cond (p .fits) (record { fits = true; orientation = o; at = p 
 abbrev pub turnedOf : Stand → Kind → ℕ → Step
 turnedOf s k o = settled s k o (spotIn s k o)
 
--- 01: the mass rule "before any spot is sought", then the spot
+-- the mass is tested before a spot is looked for. RULES: Second placer: mass.
 unfoldable pub placeOf : Stand → Kind → ℕ → Step
 placeOf s k o = cond (massAllows s k) (turnedOf s k o) (noStep s)
 
--- the share of the container's volume that the placed boxes have
+-- the utilization: the share of the container's volume that the placed boxes have
 abbrev pub fillOf : Stand → Float
 fillOf s = s .volume ⊘ volume (s .container .size)
 
 -- ---- no leaves everything as it was: a step that doesn't fit is `noStep`
 
 -- it stays so under a test that may say no first
-pub ruled-stays : (s : Stand) (r : Step) (b : Bool) → (r .fits ≡ false → r ≡ noStep s) → cond b r (noStep s) .fits ≡ false → cond b r (noStep s) ≡ noStep s
+pub ruled-stays : (s : Stand) (r : Step) (b : Bool) → (r .fits ≡ false → r ≡ noStep s)
+    → cond b r (noStep s) .fits ≡ false → cond b r (noStep s) ≡ noStep s
 ruled-stays s r true f h = f h
 ruled-stays s r false f h = refl
 

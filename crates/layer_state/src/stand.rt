@@ -30,7 +30,7 @@ pub(crate) fn mass_allows(stand: Stand, kind: Kind) -> bool
 {
     let container = stand.container;
     let limit = container.limit;
-    !((0.0 < limit) & !(kind.massed == 0)) | (stand.mass + kind.mass <= limit)
+    !((0.0 < limit) & measures::has_mass(kind.massed)) | (stand.mass + kind.mass <= limit)
 }
 
 // The stand with a box of this kind on a spot.

@@ -63,7 +63,8 @@ module _ {A : Type 0} (blank : A) (many : ℕ) where
   table-same g h n e = filled-same (replicate many blank) g h n e
 
   -- what holds of a blank and of each entry holds of each cell
-  pub table-each : (P : A → Type 0) (g : ℕ → A) (n : ℕ) (d : A) → n ≤ many → P blank → ((k : ℕ) → k < n → P (g k)) → (k : ℕ) → k < many → P (getD (table blank many g n) k d)
+  pub table-each : (P : A → Type 0) (g : ℕ → A) (n : ℕ) (d : A) → n ≤ many → P blank → ((k : ℕ) → k < n → P (g k)) → (k : ℕ) → k < many
+      → P (getD (table blank many g n) k d)
   table-each P g n d m b h k l =
       elim (decLt k n) [
         | yes c ↦ rw (table-at g n k d m c) (h k c)

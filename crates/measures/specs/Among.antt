@@ -13,13 +13,15 @@ use Rattle.measures.specs.Orders.{orders, shareOf, orderAt, turned, leng
 -- row by row of the table
 abbrev pub allTurned : List Float → List Float
 allTurned size =
-    turned size (getD orders 0 []) ++ (turned size (getD orders 1 []) ++ (turned size (getD orders 2 []) ++ (turned size (getD orders 3 []) ++ (turned size (getD orders 4 []) ++ turned size (getD orders 5 [])))))
+    turned size (getD orders 0 []) ++
+    (turned size (getD orders 1 []) ++
+    (turned size (getD orders 2 []) ++ (turned size (getD orders 3 []) ++ (turned size (getD orders 4 []) ++ turned size (getD orders 5 [])))))
 
 -- row k of them
 abbrev pub rowAmong : List Float → ℕ → List Float
 rowAmong all k = getD all (k * 3) nan ∷ getD all (k * 3 + 1) nan ∷ getD all (k * 3 + 2) nan ∷ []
 
--- 01: "An index past the list gives the unrotated lengths."
+-- RULES: Orientation. Past what the rule allows the box is unrotated.
 unfoldable pub lengthsAmong : List Float → List Float → ℕ → ℕ → List Float
 lengthsAmong all size rule i = cond (ltb i (length (shareOf rule))) (rowAmong all (getD (shareOf rule) i 0)) size
 

@@ -9,7 +9,7 @@ use lib.ListN.{length, getD}
 use lib.Ieee.{Float, nan}
 use Rattle.measures.specs.declared.Kind.{Kind}
 
--- 01: "any = (0,1,2) (0,2,1) (1,0,2) (1,2,0) (2,0,1) (2,1,0)", the axes that stand for width, depth and height
+-- RULES: Orientation. The one table of axis orders: which of a box's lengths stand for width, depth and height.
 abbrev pub orders : List (List ℕ)
 orders = (0 ∷ 1 ∷ 2 ∷ []) ∷ (0 ∷ 2 ∷ 1 ∷ []) ∷ (1 ∷ 0 ∷ 2 ∷ []) ∷ (1 ∷ 2 ∷ 0 ∷ []) ∷ (2 ∷ 0 ∷ 1 ∷ []) ∷ (2 ∷ 1 ∷ 0 ∷ []) ∷ []
 
@@ -39,11 +39,11 @@ orderAt rule i = getD orders (getD (shareOf rule) i 0) []
 abbrev pub turned : List Float → List ℕ → List Float
 turned size o = getD size (getD o 0 0) nan ∷ getD size (getD o 1 0) nan ∷ getD size (getD o 2 0) nan ∷ []
 
--- 01: "An index past the list gives the unrotated lengths."
+-- RULES: Orientation. A box's lengths in an orientation; past what its rule allows it is unrotated.
 unfoldable pub lengthsIn : Kind → ℕ → List Float
 lengthsIn k i = cond (ltb i (length (shareOf (k .rule)))) (turned (k .size) (orderAt (k .rule) i)) (k .size)
 
--- 01: "upright = (0,1,2) (1,0,2); fixed = (0,1,2)"
+-- RULES: Orientation. What an upright and a fixed box are allowed, read from the table.
 pub upright-is : map (λ i. getD orders i []) (shareOf 1) ≡ (0 ∷ 1 ∷ 2 ∷ []) ∷ (1 ∷ 0 ∷ 2 ∷ []) ∷ []
 upright-is = refl
 

@@ -7,6 +7,8 @@ use Rattle.sheet.proofs.over_count as over-count
 use Rattle.sheet.proofs.is_among as is-among
 use Rattle.sheet.proofs.boxes_in as boxes-in
 use Rattle.sheet.proofs.sheet_refusal as sheet-refusal
+use Rattle.sheet.proofs.blank_kind as blank-kind
+use Rattle.sheet.proofs.blank_line as blank-line
 
 module _ {M : Type 1} (𝓤 : URA M) (w : World 𝓤) where
   pub empty-sheet-one : (κs : _) (args : _) → Settles 𝓤 (empty-sheet.clauses 𝓤 (w .heap) (w .atoms) (w .mem) (w .run) κs args) nothing
@@ -23,3 +25,9 @@ module _ {M : Type 1} (𝓤 : URA M) (w : World 𝓤) where
 
   pub sheet-refusal-one : (κs : _) (args : _) → Settles 𝓤 (sheet-refusal.clauses 𝓤 (w .heap) (w .atoms) (w .mem) (w .run) κs args) nothing
   sheet-refusal-one κs args = plain 𝓤 _ _ (λ _. refl) (λ _ _ _. refl)
+
+  pub blank-kind-one : (κs : _) (args : _) → Settles 𝓤 (blank-kind.clauses 𝓤 (w .heap) (w .atoms) (w .mem) (w .run) κs args) nothing
+  blank-kind-one κs args = plain 𝓤 _ _ (λ _. refl) (λ _ _ _. refl)
+
+  pub blank-line-one : (κs : _) (args : _) → Settles 𝓤 (blank-line.clauses 𝓤 (w .heap) (w .atoms) (w .mem) (w .run) κs args) nothing
+  blank-line-one κs args = plain 𝓤 _ _ (λ _. refl) (λ _ _ _. refl)

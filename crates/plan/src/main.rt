@@ -1,75 +1,75 @@
-// The planner: an order, a load file, on standard input; the planned sheet on standard output, or with `list` the plan as
-// text.
+// The planner: an order, a load file, on standard input; the planned sheet on standard output, or with `list` the plan as text.
 mod list; // list.rt: a plan as text
 mod words; // words.rt: the words that the planner is started with
 
 use libc::STDERR_FILENO;
 use libc::STDIN_FILENO;
 use libc::STDOUT_FILENO;
-use plan_sheet::Plan;
-use sheet::Sheet;
-
-// One byte more than a load file may have, so that a longer input is seen to be longer and not cut.
-const BYTES: usize = 60001;
+use program_io::BYTES;
 
 // Longer than any word that is understood.
 const LETTERS: usize = 64;
 
-fn refuse(refused: u32) {
+fn refuse(refused: u64) {
     io::write_all(STDERR_FILENO, b"refused ");
-    io::print_decimal(STDERR_FILENO, refused as u64);
+    io::print_decimal(STDERR_FILENO, refused);
     io::write_all(STDERR_FILENO, b"\n");
 }
 
 // The first n bytes.
-fn put_first(bytes: &[u8], n: usize) {
+fn put_first(bytes: &[u8], n: usize) -> bool {
     if n <= bytes.len() {
-        io::write_all(STDOUT_FILENO, &bytes[..n]);
+        return io::write_all(STDOUT_FILENO, &bytes[..n]);
     }
+    true
 }
 
-fn write(order: Sheet, p: Plan) {
-    let planned = plan_sheet::planned_sheet(order, p);
-    if planned.refused != 0 {
-        refuse(planned.refused);
-        return;
+// The plan as text of a sheet in the first n bytes.
+fn list_first(bytes: &[u8], n: usize, considered: u64, utilization: u64) -> bool {
+    if n <= bytes.len() {
+        return list::put_plan(&bytes[..n], considered, utilization);
     }
-    let s = planned.sheet;
-    let mut bytes = [0u8; BYTES];
-    let w = file_laws::write_sheet(s, &mut bytes);
-    if w.refused != 0 {
-        refuse(w.refused);
-        return;
-    }
-    put_first(&bytes, w.length);
+    true
 }
 
-fn planned(order: Sheet, layers: bool, consider: u64) -> Plan {
+fn planned(
+    order: &[u8],
+    layers: bool,
+    consider: u64,
+    sheet: &mut [u8],
+    figures: &mut [u64; 2],
+) -> u64 {
     if layers {
-        return layer_run::layer_fill(order, consider);
+        return waikurpeho::wk_plan_layers(order, consider, sheet, figures);
     }
-    point_run::ep_packing(order, consider)
+    waikurpeho::wk_plan_points(order, consider, sheet, figures)
+}
+
+// Plans the order, writes the sheet or lists it, and answers whether it could; a refusal is told on the error stream.
+fn write_plan(order: &[u8], layers: bool, consider: u64, listed: bool) -> bool {
+    let mut sheet = [0u8; BYTES];
+    let mut figures = [0u64; 2];
+    let answer = planned(order, layers, consider, &mut sheet, &mut figures);
+    let refused = program_io::refusal_of(answer);
+    let length = program_io::count_of(answer);
+    if refused != 0 {
+        refuse(refused);
+        return true;
+    }
+    if listed {
+        return list_first(&sheet, length, figures[0], figures[1]);
+    }
+    put_first(&sheet, length)
 }
 
 fn run(layers: bool, consider: u64, listed: bool) {
     let mut bytes = [0u8; BYTES];
     let n = io::read_full(STDIN_FILENO, &mut bytes);
-    let read = file_laws::read_sheet(&bytes[..n]);
-    if read.refused != 0 {
-        refuse(read.refused);
+    if program_io::broken_off(n) {
+        program_io::tell_unread();
         return;
     }
-    let order = read.sheet;
-    let p = planned(order, layers, consider);
-    if p.refused != 0 {
-        refuse(p.refused);
-        return;
-    }
-    if listed {
-        list::put_plan(p);
-        return;
-    }
-    write(order, p);
+    program_io::tell_unwritten(write_plan(&bytes[..n], layers, consider, listed));
 }
 
 fn main() {

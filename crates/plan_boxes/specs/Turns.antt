@@ -19,7 +19,8 @@ firstTurn = record { kind = 0; instance = 0 }
 
 -- the next instance of a kind that has so many, else the first of the next kind
 unfoldable pub nextTurn : ℕ → Instance → Instance
-nextTurn quantity u = cond (ltb (u .instance + 1) quantity) (record { kind = u .kind; instance = u .instance + 1 }) (record { kind = u .kind + 1; instance = 0 })
+nextTurn quantity u = cond (ltb (u .instance + 1) quantity) (record { kind = u .kind; instance = u .instance + 1 })
+    (record { kind = u .kind + 1; instance = 0 })
 
 unfoldable pub turnOf : List Kind → ℕ → Instance
 turnOf kinds zero = firstTurn
@@ -68,14 +69,20 @@ module _ (kinds : List Kind) (m : ℕ) (some : (k : ℕ) → k < m → 0 < quant
       last : sumBelow (quantityOf kinds) m ≡ suc t → ⊥
       last e = omega arith
 
-  next-right : (t : ℕ) (u : Instance) → suc t < sumBelow (quantityOf kinds) m → Right kinds m t u → Right kinds m (suc t) (nextTurn (quantityOf kinds (u .kind)) u)
+  next-right : (t : ℕ) (u : Instance) → suc t < sumBelow (quantityOf kinds) m → Right kinds m t u
+      → Right kinds m (suc t) (nextTurn (quantityOf kinds (u .kind)) u)
   unfolding nextTurn
   next-right t u h r = go (ltb (u .instance + 1) (quantityOf kinds (u .kind))) refl
     where
       go : (b : Bool) → ltb (u .instance + 1) (quantityOf kinds (u .kind)) ≡ b
           → Right kinds m (suc t) (cond b (record { kind = u .kind; instance = u .instance + 1 }) (record { kind = u .kind + 1; instance = 0 }))
       go true e =
-          record { kind-is = r .kind-is; instance-is = ltb-true (u .instance + 1) (quantityOf kinds (u .kind)) e; place-is = let p = r .place-is in omega arith }
+          record {
+            kind-is = r .kind-is;
+            instance-is = ltb-true (u .instance + 1)
+                (quantityOf kinds (u .kind)) e;
+            place-is = let p = r .place-is in omega arith;
+          }
       go false e = opens t u h r (ltb-false (u .instance + 1) (quantityOf kinds (u .kind)) e)
 
   pub turn-right : (t : ℕ) → t < sumBelow (quantityOf kinds) m → Right kinds m t (turnOf kinds t)
@@ -132,6 +139,7 @@ turn-early kinds zero = le-refl 0
 turn-early kinds (suc t) = let h = turn-early kinds t in go (ltb (turnOf kinds t .instance + 1) (quantityOf kinds (turnOf kinds t .kind))) h
   where
     go : (b : Bool) → turnOf kinds t .kind ≤ t
-        → cond {A = Instance} b (record { kind = turnOf kinds t .kind; instance = turnOf kinds t .instance + 1 }) (record { kind = turnOf kinds t .kind + 1; instance = 0 }) .kind ≤ suc t
+        → cond {A = Instance} b (record { kind = turnOf kinds t .kind; instance = turnOf kinds t .instance + 1 })
+        (record { kind = turnOf kinds t .kind + 1; instance = 0 }) .kind ≤ suc t
     go true h = omega arith
     go false h = omega arith

@@ -2,25 +2,15 @@
 // (packing_utils.rs, `build_instances`; extreme_point.rs, the loops that open `run_ep_packing`).
 ghost use mathlib.Core.Path.{_≡_};
 ghost use Prim.Native.Nat.{_<_};
-ghost use Rattle.domain.specs.Bounds.{mostKinds, mostBoxes};
+ghost use Rattle.domain.specs.Bounds.{mostBoxes};
 ghost use Rattle.plan_boxes.specs.Turns.{nextTurn};
-ghost use Rattle.plan_boxes.specs.Listing.{inStore, quantityAt, atMostAll, noBoxes, listingOf};
+ghost use Rattle.plan_boxes.specs.Listing.{quantityAt, atMostAll, noBoxes, listingOf};
 use measures::Kind;
 
 // One box: its kind's place in the order, and which one of that kind it is.
 pub struct Instance {
     pub kind: usize,
     pub instance: u32,
-}
-
-// A kind's place in the store, and the last place for one past it.
-fn in_store(k: usize) -> usize
-    ensures { λ r. ⌜ (r ≡ inStore k) × (r < mostKinds) ⌝ }
-{
-    if k < domain::MOST_KINDS {
-        return k;
-    }
-    domain::MOST_KINDS - 1
 }
 
 // How many boxes the kind at this place has, if it is in the store; a kind past it has none.
@@ -70,7 +60,7 @@ fn no_boxes() -> [Instance; domain::MOST_BOXES]
     [none; domain::MOST_BOXES]
 }
 
-// The first n boxes of an order, 256 at most, and (0, 0) in the cells past them. The first is instance 0 of kind 0, and behind
+// The first n boxes of an order, as many as there can be at most, and (0, 0) in the cells past them. The first is instance 0 of kind 0, and behind
 // instance i of kind k comes instance i + 1 of it where the kind has so many, else instance 0 of kind k + 1. For an accepted
 // order and an n up to its total these are its boxes, each once (`turn-right`, `turn-at`). For other input the rule is the
 // same: a kind of quantity 0 gets its instance 0, and past the order's last kind each kind does, with the quantity that its
@@ -88,7 +78,7 @@ pub fn listing(kinds: [Kind; domain::MOST_KINDS], n: usize) -> [Instance; domain
     while t < most {
         boxes[t] = u;
         let at = u.kind;
-        let k = in_store(at);
+        let k = domain::place_within(at);
         let kind = kinds[k];
         u = next_turn(u, quantity_at(at, kind.quantity));
         t += 1;

@@ -23,15 +23,15 @@ use Rattle.plan_unplaced.specs.Anew.{anew-refusal}
 use Rattle.plan_sheet.specs.declared.Plan.{Plan}
 use Rattle.plan_sheet.specs.Plans.{blankLine, leftBy, plannedOf, planRefusal}
 use Rattle.plan_sheet.specs.Planned.{widened, plannedSheet, sheetFrom}
-use Rattle.point_place.specs.declared.Filled.{Filled}
+use Rattle.point_stow.specs.declared.Stowed.{Stowed}
 use Rattle.point_state.specs.Fresh.{freshOf}
 use Rattle.point_laws.specs.Reach.{start}
-use Rattle.point_run.specs.Stored.{stored, stored-at}
+use Rattle.lists.specs.Table.{table, table-at, filled}
 use Rattle.point_run.specs.Order.{fallingBoxes}
-use Rattle.point_run.specs.Runs.{lineBy, lineOf, planFrom, fillOf, epPackingOf}
-use Rattle.point_laws.specs.Reached.{fill-reached}
+use Rattle.point_run.specs.Runs.{lineBy, lineOf, planFrom, runOf, epPackingOf}
+use Rattle.point_laws.specs.Reached.{stow-reached}
 use Rattle.point_run.specs.Kinds.{boxes-few}
-use Rattle.point_laws.specs.Told.{considers, fillBy, placed-few}
+use Rattle.point_laws.specs.Told.{considers, runBy, placed-few}
 use Rattle.plan_sheet.specs.Boxes.{smaller}
 use Rattle.layer_fill.specs.declared.LayerFill.{LayerFill}
 use Rattle.layer_fill.specs.Fill.{empty}
@@ -51,7 +51,7 @@ pub record Holds (p : Plan) (lines : List Line) (n : ℕ) : Type 0 where
   pub lines-are : p .lines ≡ lines
   pub ids-few : p .unplaced ≤ mostKinds
 
-left-is : (kinds : List Kind) (m : ℕ) (lines : List Line) (n : ℕ) → m ≤ mostKinds → n ≤ mostLines
+pub left-is : (kinds : List Kind) (m : ℕ) (lines : List Line) (n : ℕ) → m ≤ mostKinds → n ≤ mostLines
     → leftBy kinds m lines n ≡ leftAfter kinds (flagsOf kinds (namesOf lines mostLines .ids) (namesOf lines mostLines .instances) n m) m
 unfolding leftOf
 left-is kinds m lines n h k = rw (le-ltb mostKinds m h, le-ltb mostLines n k)
@@ -96,7 +96,8 @@ sheet-from : (order : Sheet) (p : Plan) → p .refused ≡ 0 → p .placed ≤ m
 unfolding sheetFrom planRefusal orElse
 sheet-from order p r a b = rw (r, le-ltb mostLines (p .placed) a, le-ltb mostKinds (p .unplaced) b)
 
-sheet-taken : (order : Sheet) (p : Plan) → sheetRefusal order ≡ 0 → p .placed ≤ mostLines → p .unplaced ≤ mostUnplaced → firstBelow (lineFaultIn (p .lines)) (p .placed) ≡ 0
+sheet-taken : (order : Sheet) (p : Plan) → sheetRefusal order ≡ 0 → p .placed ≤ mostLines → p .unplaced ≤ mostUnplaced
+    → firstBelow (lineFaultIn (p .lines)) (p .placed) ≡ 0
     → sheetRefusal (plannedSheet order p) ≡ 0
 unfolding plannedSheet
 sheet-taken order p z a b e = anew-refusal order (p .lines) (p .placed) (widened (p .ids)) (p .unplaced) z a b ∙ e
@@ -118,21 +119,23 @@ sheet-right order p lines n z few h right =
 -- ---- extreme points
 
 -- a run from a fresh state of an accepted order's container
-run-housed : (order : Sheet) (consider : ℕ) → sheetRefusal order ≡ 0 → Housed (fillBy order consider .next)
-unfolding fillOf
+run-housed : (order : Sheet) (consider : ℕ) → sheetRefusal order ≡ 0 → Housed (runBy order consider .next)
+unfolding runOf
 run-housed order consider z =
     let fair : freshOf (order .container) .refused ≡ 0 = rw (accepted order z .container-right) in
     reached-housed
-    (fill-reached (freshOf (order .container) .set) (order .kinds) (fallingBoxes (order .kinds) (boxesIn (order .kinds) (order .many .kinds))) (considers order consider)
+    (stow-reached (freshOf (order .container) .set) (order .kinds) (fallingBoxes (order .kinds) (boxesIn (order .kinds) (order .many .kinds)))
+    (considers order consider)
     (start (order .container) fair))
 
-line-right : (f : Filled) (n i : ℕ) → n ≤ mostBoxes → i < n → Housed (f .next) → f .next .held ≡ n → lineFault (getD (stored blankLine (lineOf f) n) i noLine) ≡ 0
+line-right : (f : Stowed) (n i : ℕ) → n ≤ mostBoxes → i < n → Housed (f .next) → f .next .held ≡ n
+    → lineFault (getD (table blankLine mostLines (lineOf f) n) i noLine) ≡ 0
 unfolding lineBy
 line-right f n i few l h e =
-    rw (stored-at blankLine (lineOf f) n i noLine few l) (no-fault (lineOf f i) (h .range i (rw e l)))
+    rw (table-at blankLine mostLines (lineOf f) n i noLine few l) (no-fault (lineOf f i) (h .range i (rw e l)))
 
 -- no more boxes than there can be
-held-few : (order : Sheet) (consider : ℕ) → sheetRefusal order ≡ 0 → fillBy order consider .next .held ≤ mostBoxes
+pub held-few : (order : Sheet) (consider : ℕ) → sheetRefusal order ≡ 0 → runBy order consider .next .held ≤ mostBoxes
 held-few order consider z =
     let h = placed-few order consider z in
     let l = smaller-le consider (boxesIn (order .kinds) (order .many .kinds)) in
@@ -142,20 +145,22 @@ held-few order consider z =
 pub points-accepted : (order : Sheet) (consider : ℕ) → sheetRefusal order ≡ 0 → Taken order (epPackingOf order consider)
 unfolding epPackingOf planFrom
 points-accepted order consider z =
-    let f = fillBy order consider in
+    let f = runBy order consider in
     let n = f .next .held in
     let few = held-few order consider z in
     rw z
-    (sheet-right order _ (stored blankLine (lineOf f) n) n z few
-    (planned-holds (order .kinds) (order .many .kinds) (stored blankLine (lineOf f) n) n (considers order consider) _ (accepted order z .few-of .kinds) few)
+    (sheet-right order _ (table blankLine mostLines (lineOf f) n) n z few
+    (planned-holds (order .kinds) (order .many .kinds) (table blankLine mostLines (lineOf f) n) n (considers order consider) _
+    (accepted order z .few-of .kinds) few)
     (λ i l. line-right f n i few l (run-housed order consider z) refl))
 
 pub points-lists : (order : Sheet) (consider : ℕ) → sheetRefusal order ≡ 0 → Lists (order .kinds) (order .many .kinds) (epPackingOf order consider)
 unfolding epPackingOf planFrom
 points-lists order consider z =
-    let f = fillBy order consider in
+    let f = runBy order consider in
     rw z
-    (planned-lists (order .kinds) (order .many .kinds) (stored blankLine (lineOf f) (f .next .held)) (f .next .held) (considers order consider) _ (accepted order z .few-of .kinds) (held-few order consider z))
+    (planned-lists (order .kinds) (order .many .kinds) (table blankLine mostLines (lineOf f) (f .next .held)) (f .next .held) (considers order consider) _
+    (accepted order z .few-of .kinds) (held-few order consider z))
 
 -- ---- layers
 
@@ -167,10 +172,10 @@ turn-measures order a t l =
     let r = turn-right (order .kinds) (order .many .kinds) (some-boxes order a) t (omega arith) in
     a .kind-sound (turnOf (order .kinds) t .kind) (r .kind-is) .measures-right
 
-fill-accepted : (order : Sheet) (f : LayerFill) (n : ℕ) → sheetRefusal order ≡ 0 → InOrder (order .container) f → f .count ≤ mostLines
+stow-accepted : (order : Sheet) (f : LayerFill) (n : ℕ) → sheetRefusal order ≡ 0 → InOrder (order .container) f → f .count ≤ mostLines
     → Taken order (Fills.planFrom (order .kinds) (order .many .kinds) f n)
 unfolding Fills.planFrom
-fill-accepted order f n z o few =
+stow-accepted order f n z o few =
     sheet-right order _ (f .lines) (f .count) z few
     (planned-holds (order .kinds) (order .many .kinds) (f .lines) (f .count) n _ (accepted order z .few-of .kinds) few)
     (λ i l. no-fault (getD (f .lines) i noLine) (o .range i l))
@@ -194,7 +199,7 @@ layers-accepted order consider z =
     let a = accepted order z in
     let l = smaller-le consider (boxesIn (order .kinds) (order .many .kinds)) in
     rw z
-    (fill-accepted order (fillTo order consider) (number order consider) z
+    (stow-accepted order (fillTo order consider) (number order consider) z
     (fill-right (order .container) (order .kinds) (number order consider) (sized (order .container) (a .container-right)) (turns-right order a consider .few)
     (λ t k. turn-measures order a t (omega arith)))
     (count-few order consider z))
@@ -204,4 +209,25 @@ unfolding layerFillOf Fills.planFrom
 layers-lists order consider z =
     let f = fillTo order consider in
     rw z
-    (planned-lists (order .kinds) (order .many .kinds) (f .lines) (f .count) (number order consider) _ (accepted order z .few-of .kinds) (count-few order consider z))
+    (planned-lists (order .kinds) (order .many .kinds) (f .lines) (f .count) (number order consider) _ (accepted order z .few-of .kinds)
+    (count-few order consider z))
+
+-- ---- the lines of a plan
+
+pub points-lines : (order : Sheet) (consider : ℕ) → sheetRefusal order ≡ 0
+    → let f = runBy order consider in Holds (epPackingOf order consider) (table blankLine mostLines (lineOf f) (f .next .held)) (f .next .held)
+unfolding epPackingOf planFrom
+points-lines order consider z =
+    let f = runBy order consider in
+    let n = f .next .held in
+    rw z
+    (planned-holds (order .kinds) (order .many .kinds) (table blankLine mostLines (lineOf f) n) n (considers order consider) _
+    (accepted order z .few-of .kinds) (held-few order consider z))
+
+pub layers-lines : (order : Sheet) (consider : ℕ) → sheetRefusal order ≡ 0 → layerFillOf order consider .lines ≡ fillTo order consider .lines
+unfolding layerFillOf Fills.planFrom
+layers-lines order consider z =
+    let f = fillTo order consider in
+    rw z
+    (planned-holds (order .kinds) (order .many .kinds) (f .lines) (f .count) (number order consider) _ (accepted order z .few-of .kinds)
+    (count-few order consider z) .lines-are)

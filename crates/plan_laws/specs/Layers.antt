@@ -46,7 +46,7 @@ pub record Ahead (c : LayerCursor) : Type 0 where
   pub depth-is : signed false (c .depth)
   pub height-is : signed false (c .height)
 
-none-signed : signed false none
+pub none-signed : signed false none
 unfolding ofBits
 none-signed = refl
 
@@ -85,7 +85,7 @@ module _ (b : Container) (max : List Float) (s : Sized b) where
       })
       (λ _. h)
 
-  turn-ahead : (c : LayerCursor) (size : List Float) → Ahead c → Ahead (turnTo b max c size)
+  pub turn-ahead : (c : LayerCursor) (size : List Float) → Ahead c → Ahead (turnTo b max c size)
   turn-ahead c size h = layer-ahead (newRow b max c (Ops.x size)) (Ops.y size) (row-ahead c (Ops.x size) h)
 
   past-ahead : (c : LayerCursor) (size : List Float) → Lengths size → Ahead c → Ahead (past b c size)
@@ -117,9 +117,15 @@ module _ (b : Container) (sz : Sized b) where
       let m = newOf b .max in
       let f = or-right (lt (Ops.x m) (c .x ⊕ Ops.x size)) _ e in
       record {
-        x-is = layer-axis (Ops.x (b .size)) (b .margin) (c .x) (Ops.x size) (sz .lengths .x-is) (sz .margin) (h .x-is) (l .x-is) (or-left (lt (Ops.x m) (c .x ⊕ Ops.x size)) _ e);
-        y-is = layer-axis (Ops.y (b .size)) (b .margin) (c .y) (Ops.y size) (sz .lengths .y-is) (sz .margin) (h .y-is) (l .y-is) (or-left (lt (Ops.y m) (c .y ⊕ Ops.y size)) _ f);
-        z-is = layer-axis (Ops.z (b .size)) (b .margin) (c .z) (Ops.z size) (sz .lengths .z-is) (sz .margin) (h .z-is) (l .z-is) (or-right (lt (Ops.y m) (c .y ⊕ Ops.y size)) _ f);
+        x-is =
+            layer-axis (Ops.x (b .size)) (b .margin) (c .x) (Ops.x size) (sz .lengths .x-is) (sz .margin) (h .x-is) (l .x-is)
+            (or-left (lt (Ops.x m) (c .x ⊕ Ops.x size)) _ e);
+        y-is =
+            layer-axis (Ops.y (b .size)) (b .margin) (c .y) (Ops.y size) (sz .lengths .y-is) (sz .margin) (h .y-is) (l .y-is)
+            (or-left (lt (Ops.y m) (c .y ⊕ Ops.y size)) _ f);
+        z-is =
+            layer-axis (Ops.z (b .size)) (b .margin) (c .z) (Ops.z size) (sz .lengths .z-is) (sz .margin) (h .z-is) (l .z-is)
+            (or-right (lt (Ops.y m) (c .y ⊕ Ops.y size)) _ f);
       }
 
   record Spot (p : LayerSpot) : Type 0 where
@@ -135,10 +141,10 @@ module _ (b : Container) (sz : Sized b) where
       (λ _. record { range = λ e. true-false (sym e); next-ahead = h })
       (λ e. record { range = λ _. spot-range (turnTo b m c size) size l t e; next-ahead = past-ahead b m sz (turnTo b m c size) size l t })
 
-  none-kept : (s : Stand) → Right b s → Kept b (noStep s)
+  pub none-kept : (s : Stand) → Right b s → Kept b (noStep s)
   none-kept s r = record { spot = λ e. true-false (sym e); stand = r }
 
-  turned-kept : (s : Stand) (k : Kind) (o : ℕ) → measureFault k ≡ false → Right b s → Kept b (turnedOf s k o)
+  pub turned-kept : (s : Stand) (k : Kind) (o : ℕ) → measureFault k ≡ false → Right b s → Kept b (turnedOf s k o)
   unfolding settled
   turned-kept s k o e r =
       let p : Spot (spotIn s k o) = rw (r .container-is, r .max-is) (spot-right (s .cursor) (lengthsIn k o) (lengths-in k o e) (r .ahead)) in
@@ -150,7 +156,7 @@ module _ (b : Container) (sz : Sized b) where
       })
       (λ _. none-kept s r)
 
-  best-kept : (s : Stand) (k : Kind) → measureFault k ≡ false → Right b s → Kept b (placeBestOf s k)
+  pub best-kept : (s : Stand) (k : Kind) → measureFault k ≡ false → Right b s → Kept b (placeBestOf s k)
   unfolding placeBestOf
   best-kept s k e r =
       cond-cases (Kept b) (massAllows s k)
@@ -190,7 +196,8 @@ took-right b f r id instance room h k =
     })
     (λ _. h)
   where
-    line : (j : ℕ) → j < f .count + 1 → r .fits ≡ true → (t : Bool) → eqb j (f .count) ≡ t → InRange (getD (set (f .lines) (f .count) (lineOf r id instance)) j noLine .at)
+    line : (j : ℕ) → j < f .count + 1 → r .fits ≡ true → (t : Bool) → eqb j (f .count) ≡ t
+        → InRange (getD (set (f .lines) (f .count) (lineOf r id instance)) j noLine .at)
     line j l e true q =
         rw (eqb-true j (f .count) q, getD-set-same (f .lines) (f .count) (lineOf r id instance) noLine (rw (h .long) room)) (k .spot e)
     line j l e false q =

@@ -4,6 +4,6 @@ pub mod Spots
 pub mod Layers
 pub mod Points
 pub mod Accepted
-pub mod Boundary
+pub mod Bins
 pub mod Listed
 pub mod NoneLost

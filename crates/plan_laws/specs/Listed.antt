@@ -12,37 +12,18 @@ use lib.Dec.{eqb}
 use lib.ListN.{length, getD, set, length-set, length-replicate}
 use lib.Seq.{getD-set-same, getD-set-other}
 use Rattle.domain.specs.Bounds.{mostKinds}
-use Rattle.lists.specs.Below.{anyBelow}
+use Rattle.lists.specs.Below.{anyBelow, none-any, any-same}
+use Rattle.lists.specs.Table.{table-at}
 use Rattle.measures.specs.declared.Kind.{Kind}
 use Rattle.sheet.specs.Sheets.{noKind}
-use Rattle.lists.specs.Below.{any-same}
 use Rattle.plan_unplaced.specs.declared.Left.{Left}
 use Rattle.plan_unplaced.specs.Left.{shortKind, flagsOf, pushIf, leftAfter, left-few}
-use Rattle.check_packing.specs.Lines.{isListed}
-
--- no test below n
-pub any-all : (p : ℕ → Bool) (n : ℕ) → ((j : ℕ) → j < n → p j ≡ false) → anyBelow p n ≡ false
-unfolding anyBelow
-any-all p zero h = refl
-any-all p (suc n) h = rw (any-all p n (λ j l. h j (omega arith)), h n (omega arith))
+use Rattle.lists.specs.Below.{isAt}
 
 -- a flag for each kind
-flags-long : (kinds : List Kind) (ids instances : List ℕ) (n m : ℕ) → length (flagsOf kinds ids instances n m) ≡ mostKinds
-unfolding flagsOf
-flags-long kinds ids instances n zero = length-replicate mostKinds false
-flags-long kinds ids instances n (suc m) = length-set (flagsOf kinds ids instances n m) m (shortKind kinds ids instances n m) ∙ flags-long kinds ids instances n m
-
 pub flag-at : (kinds : List Kind) (ids instances : List ℕ) (n m k : ℕ) → m ≤ mostKinds → k < m
     → getD (flagsOf kinds ids instances n m) k false ≡ shortKind kinds ids instances n k
-unfolding flagsOf
-flag-at kinds ids instances n zero k few l = absurd (not-suc-le-zero l)
-flag-at kinds ids instances n (suc m) k few l =
-    ⊎-elim
-    (λ e. rw e (getD-set-same (flagsOf kinds ids instances n m) m (shortKind kinds ids instances n m) false (rw (flags-long kinds ids instances n m) few)))
-    (λ i.
-    getD-set-other (flagsOf kinds ids instances n m) m k (shortKind kinds ids instances n m) false (λ e. omega arith)
-    ∙ flag-at kinds ids instances n m k (omega arith) i)
-    (eq-or-lt-of-le (le-of-suc-le-suc l))
+flag-at kinds ids instances n m k few l = table-at false mostKinds (shortKind kinds ids instances n) m k false few l
 
 -- ---- one id more
 
@@ -57,10 +38,10 @@ left-long kinds flags zero = length-replicate {A = ℕ} mostKinds 0
 left-long kinds flags (suc m) = push-long (getD flags m false) (getD kinds m noKind .id) (leftAfter kinds flags m) ∙ left-long kinds flags m
 
 -- a store at c leaves what is listed before it
-set-listed : (ids : List ℕ) (c v id n : ℕ) → n ≤ c → anyBelow (isListed (set ids c v) id) n ≡ anyBelow (isListed ids id) n
-unfolding isListed
+set-listed : (ids : List ℕ) (c v id n : ℕ) → n ≤ c → anyBelow (isAt (set ids c v) id) n ≡ anyBelow (isAt ids id) n
+unfolding isAt
 set-listed ids c v id n h =
-    any-same (isListed (set ids c v) id) (isListed ids id) n (λ j l. rw (getD-set-other ids c j v 0 (λ e. omega arith)))
+    any-same (isAt (set ids c v) id) (isAt ids id) n (λ j l. rw (getD-set-other ids c j v 0 (λ e. omega arith)))
 
 or-first : (a b : Bool) → a ≡ true → (a || b) ≡ true
 or-first a b e = rw e
@@ -70,18 +51,19 @@ or-second true b e = refl
 or-second false b e = e
 
 -- the id that is pushed is listed
-push-own : (id : ℕ) (p : Left) → p .count < length (p .ids) → anyBelow (isListed (pushIf true id p .ids) id) (pushIf true id p .count) ≡ true
-unfolding pushIf isListed anyBelow
+push-own : (id : ℕ) (p : Left) → p .count < length (p .ids) → anyBelow (isAt (pushIf true id p .ids) id) (pushIf true id p .count) ≡ true
+unfolding pushIf isAt anyBelow
 push-own id p r =
     rw (add-one (p .count), getD-set-same (p .ids) (p .count) id 0 r, eq-eqb id id refl)
-    (or-second (anyBelow (isListed (set (p .ids) (p .count) id) id) (p .count)) true refl)
+    (or-second (anyBelow (isAt (set (p .ids) (p .count) id) id) (p .count)) true refl)
 
 -- and what was listed stays so
-push-kept : (b : Bool) (v id : ℕ) (p : Left) → anyBelow (isListed (p .ids) id) (p .count) ≡ true → anyBelow (isListed (pushIf b v p .ids) id) (pushIf b v p .count) ≡ true
+push-kept : (b : Bool) (v id : ℕ) (p : Left) → anyBelow (isAt (p .ids) id) (p .count) ≡ true
+    → anyBelow (isAt (pushIf b v p .ids) id) (pushIf b v p .count) ≡ true
 unfolding pushIf anyBelow
 push-kept true v id p h =
     rw (add-one (p .count))
-    (or-first (anyBelow (isListed (set (p .ids) (p .count) v) id) (p .count)) _ (set-listed (p .ids) (p .count) v id (p .count) (le-refl (p .count)) ∙ h))
+    (or-first (anyBelow (isAt (set (p .ids) (p .count) v) id) (p .count)) _ (set-listed (p .ids) (p .count) v id (p .count) (le-refl (p .count)) ∙ h))
 push-kept false v id p h = h
 
 -- place i of a list: a flagged kind below m, and its id stands at no earlier place
@@ -90,7 +72,7 @@ pub record Entry (kinds : List Kind) (flags : List Bool) (m : ℕ) (p : Left) (i
   pub below : kind < m
   pub flagged : getD flags kind false ≡ true
   pub is : getD (p .ids) i 0 ≡ getD kinds kind noKind .id
-  pub new : anyBelow (isListed (p .ids) (getD kinds kind noKind .id)) i ≡ false
+  pub new : anyBelow (isAt (p .ids) (getD kinds kind noKind .id)) i ≡ false
 
 -- kind m's id is no earlier kind's
 abbrev pub Apart : List Kind → ℕ → Type 0
@@ -102,7 +84,7 @@ module _ (kinds : List Kind) (flags : List Bool) where
 
   -- each flagged kind is listed
   pub flagged-listed : (m k : ℕ) → m ≤ mostKinds → k < m → getD flags k false ≡ true
-      → anyBelow (isListed (leftAfter kinds flags m .ids) (idOf k)) (leftAfter kinds flags m .count) ≡ true
+      → anyBelow (isAt (leftAfter kinds flags m .ids) (idOf k)) (leftAfter kinds flags m .count) ≡ true
   unfolding leftAfter
   flagged-listed zero k few l f = absurd (not-suc-le-zero l)
   flagged-listed (suc m) k few l f =
@@ -127,7 +109,7 @@ module _ (kinds : List Kind) (flags : List Bool) where
   -- and the new one
   new-entry : (m : ℕ) (p : Left) → getD flags m false ≡ true → Apart kinds m → p .count < length (p .ids) → ((i : ℕ) → i < p .count → Entry kinds flags m p i)
       → Entry kinds flags (suc m) (record { refused = p .refused; count = p .count + 1; ids = set (p .ids) (p .count) (idOf m) }) (p .count)
-  unfolding isListed
+  unfolding isAt
   new-entry m p f apart r h =
       record {
         kind = m;
@@ -136,10 +118,11 @@ module _ (kinds : List Kind) (flags : List Bool) where
         is = getD-set-same (p .ids) (p .count) (idOf m) 0 r;
         new =
             set-listed (p .ids) (p .count) (idOf m) (idOf m) (p .count) (le-refl (p .count))
-            ∙ any-all (isListed (p .ids) (idOf m)) (p .count) (λ j l. rw (h j l .is) (apart (h j l .kind) (h j l .below)));
+            ∙ none-any (isAt (p .ids) (idOf m)) (p .count) (λ j l. rw (h j l .is) (apart (h j l .kind) (h j l .below)));
       }
 
-  push-entry : (m : ℕ) (p : Left) (b : Bool) → getD flags m false ≡ b → Apart kinds m → p .count < length (p .ids) → ((i : ℕ) → i < p .count → Entry kinds flags m p i)
+  push-entry : (m : ℕ) (p : Left) (b : Bool) → getD flags m false ≡ b → Apart kinds m → p .count < length (p .ids)
+      → ((i : ℕ) → i < p .count → Entry kinds flags m p i)
       → (i : ℕ) → i < pushIf b (idOf m) p .count → Entry kinds flags (suc m) (pushIf b (idOf m) p) i
   unfolding pushIf
   push-entry m p true f apart r h i l =
@@ -149,7 +132,8 @@ module _ (kinds : List Kind) (flags : List Bool) where
       record { kind = o .kind; below = let b = o .below in omega arith; flagged = o .flagged; is = o .is; new = o .new }
 
   -- each place of the list
-  pub entries : (m : ℕ) → m ≤ mostKinds → ((k : ℕ) → k < m → Apart kinds k) → (i : ℕ) → i < leftAfter kinds flags m .count → Entry kinds flags m (leftAfter kinds flags m) i
+  pub entries : (m : ℕ) → m ≤ mostKinds → ((k : ℕ) → k < m → Apart kinds k) → (i : ℕ) → i < leftAfter kinds flags m .count
+      → Entry kinds flags m (leftAfter kinds flags m) i
   unfolding leftAfter
   entries zero few apart i l = absurd (not-suc-le-zero l)
   entries (suc m) few apart i l =

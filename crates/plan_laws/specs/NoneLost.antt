@@ -9,23 +9,24 @@ use native.Mathlib.Omega.{arith}
 use borrow.Author.Tests.{lt-ltb}
 use lib.ListN.{length, getD, length-set, length-replicate}
 use lib.Seq.{getD-set-same, getD-set-other}
+use Rattle.lists.specs.Table.{table-at}
 use Rattle.domain.specs.Bounds.{mostKinds, mostLines, mostUnplaced}
-use Rattle.lists.specs.Below.{anyBelow}
-use Rattle.lists.specs.Below.{any-none}
+use Rattle.lists.specs.Below.{anyBelow, any-none, any-same, all-none}
 use Rattle.sheet.specs.declared.Sheet.{Sheet}
 use Rattle.sheet.specs.Sheets.{kindAt, unplacedAt, sameId, sheetRefusal}
-use Rattle.lists.specs.Below.{any-same}
 use Rattle.sheet.specs.Accepted.{Accepted, accepted}
 use Rattle.plan_unplaced.specs.declared.Left.{Left}
 use Rattle.plan_unplaced.specs.Short.{isShort, namesOf}
 use Rattle.plan_unplaced.specs.Left.{shortKind, flagsOf, leftAfter, left-few}
 use Rattle.plan_sheet.specs.declared.Plan.{Plan}
-use Rattle.plan_sheet.specs.Planned.{idsTo, plannedSheet}
+use Rattle.plan_sheet.specs.Planned.{plannedSheet}
 use Rattle.point_run.specs.Runs.{epPackingOf}
 use Rattle.layer_plan.specs.Fills.{layerFillOf}
-use Rattle.check_packing.specs.Words.{allBelow}
-use Rattle.check_packing.specs.Lines.{short, isListed}
-use Rattle.check_packing.specs.Findings.{lostWords, missing, wrongWords, wronglyListed}
+use Rattle.lists.specs.Below.{allBelow, all-none, isAt}
+use Rattle.check_packing.specs.Lines.{short}
+use Rattle.check_list.specs.Finding.{lostWords, wrongWords}
+use Rattle.check_list.specs.View.{lostFound, wrongFound}
+use Rattle.check_packing.specs.Findings.{missing, wronglyListed}
 use Rattle.check_packing.proofs.ById.{own-kind}
 use Rattle.check_packing.proofs.Packed.{packed-distinct}
 use Rattle.plan_laws.specs.Accepted.{Lists, points-accepted, points-lists, layers-accepted, layers-lists}
@@ -41,11 +42,6 @@ short-same s a k l = rw (packed-distinct s a k l)
 pub record NoneLost (s : Sheet) : Type 0 where
   pub none-missing : allBelow (missing s) (s .many .kinds) ≡ []
   pub none-wrong : allBelow (wronglyListed s) (s .many .unplaced) ≡ []
-
-all-empty : (g : ℕ → List ℕ) (n : ℕ) → ((i : ℕ) → i < n → g i ≡ []) → allBelow g n ≡ []
-unfolding allBelow
-all-empty g zero h = refl
-all-empty g (suc n) h = rw (all-empty g n (λ i l. h i (omega arith)), h n (omega arith))
 
 apart : (s : Sheet) → Accepted s → (k : ℕ) → k < s .many .kinds → Apart (s .kinds) k
 unfolding sameId
@@ -63,23 +59,24 @@ module _ (s : Sheet) (a : Accepted s) where
   flag-is : (k : ℕ) → k < s .many .kinds → short s k ≡ getD flags k false
   flag-is k l =
       short-same s a k l
-      ∙ sym (flag-at (s .kinds) (namesOf (s .lines) mostLines .ids) (namesOf (s .lines) mostLines .instances) (s .many .lines) (s .many .kinds) k (a .few-of .kinds) l)
+      ∙ sym (flag-at (s .kinds) (namesOf (s .lines) mostLines .ids) (namesOf (s .lines) mostLines .instances) (s .many .lines) (s .many .kinds) k
+      (a .few-of .kinds) l)
 
   module _ (many : s .many .unplaced ≡ left .count) (same : (j : ℕ) → j < left .count → unplacedAt s j ≡ getD (left .ids) j 0) where
-    listed-same : (id n : ℕ) → n ≤ left .count → anyBelow (isListed (s .unplaced) id) n ≡ anyBelow (isListed (left .ids) id) n
-    unfolding isListed
-    listed-same id n h = any-same (isListed (s .unplaced) id) (isListed (left .ids) id) n (λ j l. rw (same j (omega arith)))
+    listed-same : (id n : ℕ) → n ≤ left .count → anyBelow (isAt (s .unplaced) id) n ≡ anyBelow (isAt (left .ids) id) n
+    unfolding isAt
+    listed-same id n h = any-same (isAt (s .unplaced) id) (isAt (left .ids) id) n (λ j l. rw (same j (omega arith)))
 
     not-missing : (k : ℕ) → k < s .many .kinds → missing s k ≡ []
-    unfolding missing lostWords
+    unfolding lostFound lostWords
     not-missing k l = rw (flag-is k l, many, listed-same (kindAt s k .id) (left .count) (le-refl (left .count))) (go (getD flags k false) refl)
       where
-        go : (b : Bool) → getD flags k false ≡ b → lostWords (kindAt s k .id) b (anyBelow (isListed (left .ids) (kindAt s k .id)) (left .count)) ≡ []
+        go : (b : Bool) → getD flags k false ≡ b → lostWords (kindAt s k .id) b (anyBelow (isAt (left .ids) (kindAt s k .id)) (left .count)) ≡ []
         go true f = rw (flagged-listed (s .kinds) flags (s .many .kinds) k (a .few-of .kinds) l f)
         go false f = refl
 
     not-wrong : (i : ℕ) → i < left .count → wronglyListed s i ≡ []
-    unfolding wronglyListed wrongWords
+    unfolding wrongFound wrongWords
     not-wrong i l =
         let e : Entry (s .kinds) flags (s .many .kinds) left i = entries (s .kinds) flags (s .many .kinds) (a .few-of .kinds) (apart s a) i l in
         rw (
@@ -95,33 +92,23 @@ module _ (s : Sheet) (a : Accepted s) where
     none-lost : NoneLost s
     none-lost =
         record {
-          none-missing = all-empty (missing s) (s .many .kinds) not-missing;
-          none-wrong = ap (allBelow (wronglyListed s)) many ∙ all-empty (wronglyListed s) (left .count) not-wrong;
+          none-missing = all-none (missing s) (s .many .kinds) not-missing;
+          none-wrong = ap (allBelow (wronglyListed s)) many ∙ all-none (wronglyListed s) (left .count) not-wrong;
         }
 
 -- ---- and a planned sheet is so
 
-ids-long : (ids : List ℕ) (n : ℕ) → length (idsTo ids n) ≡ mostUnplaced
-unfolding idsTo
-ids-long ids zero = length-replicate {A = ℕ} mostUnplaced 0
-ids-long ids (suc n) = length-set (idsTo ids n) n (getD ids n 0) ∙ ids-long ids n
-
-ids-at : (ids : List ℕ) (n j : ℕ) → n ≤ mostUnplaced → j < n → getD (idsTo ids n) j 0 ≡ getD ids j 0
-unfolding idsTo
-ids-at ids zero j few l = absurd (not-suc-le-zero l)
-ids-at ids (suc n) j few l =
-    ⊎-elim (λ e. rw e (getD-set-same (idsTo ids n) n (getD ids n 0) 0 (rw (ids-long ids n) few)))
-    (λ i. getD-set-other (idsTo ids n) n j (getD ids n 0) 0 (λ e. omega arith) ∙ ids-at ids n j (omega arith) i)
-    (eq-or-lt-of-le (le-of-suc-le-suc l))
-
-sheet-none-lost : (order : Sheet) (p : Plan) → sheetRefusal order ≡ 0 → sheetRefusal (plannedSheet order p) ≡ 0 → Lists (order .kinds) (order .many .kinds) p → NoneLost (plannedSheet order p)
+sheet-none-lost : (order : Sheet) (p : Plan) → sheetRefusal order ≡ 0 → sheetRefusal (plannedSheet order p) ≡ 0 → Lists (order .kinds) (order .many .kinds) p
+    → NoneLost (plannedSheet order p)
 unfolding plannedSheet
 sheet-none-lost order p z t h =
     let s = plannedSheet order p in
-    let few = left-few (order .kinds) (flagsOf (order .kinds) (namesOf (p .lines) mostLines .ids) (namesOf (p .lines) mostLines .instances) (p .placed) (order .many .kinds)) (order .many .kinds) in
+    let few = left-few (order .kinds)
+    (flagsOf (order .kinds) (namesOf (p .lines) mostLines .ids) (namesOf (p .lines) mostLines .instances) (p .placed) (order .many .kinds))
+    (order .many .kinds) in
     let m = accepted order z .few-of .kinds in
     none-lost s (accepted s t) (h .count-is)
-    (λ j l. ids-at (p .ids) mostKinds j (omega arith) (omega arith) ∙ ap (λ (ids : List ℕ). getD ids j 0) (h .ids-are))
+    (λ j l. table-at 0 mostUnplaced (λ i. getD (p .ids) i 0) mostKinds j 0 (omega arith) (omega arith) ∙ ap (λ (ids : List ℕ). getD ids j 0) (h .ids-are))
 
 pub points-none-lost : (order : Sheet) (consider : ℕ) → sheetRefusal order ≡ 0 → NoneLost (plannedSheet order (epPackingOf order consider))
 points-none-lost order consider z =

@@ -10,7 +10,7 @@ use lib.Dec.{eqb}
 use lib.Ieee.{Float, lt}
 use Rattle.floats.specs.Ops.{x, y, z, _⊕_, _⊖_}
 use Rattle.domain.specs.Bounds.{mostBoxes}
-use Rattle.lists.specs.Bools.{or-left, or-right, and-left, and-right}
+use Rattle.lists.specs.Bools.{or-left, or-right, and-left, and-right, cond-cases}
 use Rattle.domain.specs.Laws.{when-none}
 use Rattle.measures.specs.declared.Container.{Container}
 use Rattle.measures.specs.declared.Kind.{Kind}
@@ -19,16 +19,17 @@ use Rattle.measures.specs.Faults.{containerFault}
 use Rattle.point_state.specs.declared.ExtremePointSet.{ExtremePointSet}
 use Rattle.point_state.specs.declared.Label.{Label}
 use Rattle.point_state.specs.Triples.{three, put3, sum3, put3-keeps, three-other}
-use Rattle.point_state.specs.Stores.{eps, pointAt, positionAt}
+use Rattle.domain.specs.Ranges.{slack}
+use Rattle.point_state.specs.Stores.{pointAt, positionAt}
 use Rattle.point_state.specs.Fresh.{startOf, freshOf}
 use Rattle.point_place.specs.declared.Tried.{Tried}
-use Rattle.point_place.specs.Fit.{roomOf, inside, fitsAt}
-use Rattle.point_place.specs.Choose.{bestOf, scan-found}
-use Rattle.point_place.specs.Grow.{putBox, settled}
+use Rattle.point_fit.specs.Fit.{roomOf, inRoom}
+use Rattle.point_scan.specs.Passes.{fitsAt}
+use Rattle.point_scan.specs.Choose.{bestOf, scan-found}
+use Rattle.point_grow.specs.Grow.{putBox, afterBox}
 use Rattle.point_place.specs.Place.{refusalOf, labelOf, placedBy, triedOf, ready}
 use Rattle.point_laws.specs.Least.{Sound, scan-right}
 use Rattle.point_laws.specs.Clean.{Clean}
-use Rattle.lists.specs.Bools.{cond-cases}
 use Rattle.point_laws.specs.Reach.{Reached, start, next, reached-clean}
 use Rattle.plan_laws.specs.Spots.{Lengths, lengths-in, kind-measures, Sized, sized, InRange, point-axis}
 
@@ -39,11 +40,11 @@ not-false false e = refl
 -- ---- a point that passes
 
 module _ (c : Container) (s : Sized c) (at size : List Float) (p : Sound at) (l : Lengths size) where
-  inside-range : inside (roomOf c) at (sum3 at size) ≡ true → InRange at
-  unfolding inside
+  inside-range : inRoom (roomOf c) at (sum3 at size) ≡ true → InRange at
+  unfolding inRoom
   inside-range e =
       let r = roomOf c in
-      let least = c .margin ⊖ eps in
+      let least = c .margin ⊖ slack in
       let near = lt (x at) least || (lt (y at) least || lt (z at) least) in
       let far = lt (x (r .most)) (x at ⊕ x size) || (lt (y (r .most)) (y at ⊕ y size) || lt (z (r .most)) (z at ⊕ z size)) in
       let a = not-false near (and-left (not near) (not far) e) in
@@ -72,8 +73,9 @@ again : (v : List Float) → InRange v → InRange (x v ∷ y v ∷ z v ∷ [])
 again v h = record { x-is = h .x-is; y-is = h .y-is; z-is = h .z-is }
 
 -- one box more
-settled-housed : (s : ExtremePointSet) (k : ℕ) (label : Label) (size : List Float) → Clean s → s .held < mostBoxes → InRange (pointAt s k) → Housed s → Housed (settled s k label size)
-unfolding settled putBox
+settled-housed : (s : ExtremePointSet) (k : ℕ) (label : Label) (size : List Float) → Clean s → s .held < mostBoxes → InRange (pointAt s k) → Housed s
+    → Housed (afterBox s k label size)
+unfolding afterBox putBox
 settled-housed s k label size c room new h = record { container-right = h .container-right; range = λ i l. box i l }
   where
     at : List Float
@@ -90,9 +92,9 @@ settled-housed s k label size c room new h = record { container-right = h .conta
     box : (i : ℕ) → i < s .held + 1 → InRange (three (put3 (put3 (s .boxes) (2 * s .held) at) (2 * s .held + 1) size) (2 * i))
     box i l = rw (three-other (put3 (s .boxes) (2 * s .held) at) (2 * s .held + 1) (2 * i) size (λ e. omega arith)) (first i l)
 
-fits-inside : (s : ExtremePointSet) (at size : List Float) → fitsAt s at size ≡ true → inside (roomOf (s .container)) at (sum3 at size) ≡ true
+fits-inside : (s : ExtremePointSet) (at size : List Float) → fitsAt s at size ≡ true → inRoom (roomOf (s .container)) at (sum3 at size) ≡ true
 unfolding fitsAt
-fits-inside s at size e = and-left (inside (roomOf (s .container)) at (sum3 at size)) _ e
+fits-inside s at size e = and-left (inRoom (roomOf (s .container)) at (sum3 at size)) _ e
 
 tried-housed : (s : ExtremePointSet) (kind : Kind) (instance orientation : ℕ) → Clean s → Housed s → Housed (triedOf s kind instance orientation .next)
 unfolding triedOf placedBy bestOf

@@ -12,8 +12,8 @@ use Rattle.floats.specs.Ops.{x, y, z, _⊕_, _⊖_}
 use Rattle.floats.specs.Order.{signed, signed-number, le-chain, le-number-l, nlt→le}
 use Rattle.floats.specs.Sums.{add-commutes, add-signed}
 use Rattle.floats.specs.Numbers.{add-number, finite-between}
-use Rattle.domain.specs.Ranges.{leastLength, most, isLength, isMeasure, isPosition}
-use Rattle.lists.specs.Bools.{or-left, or-right, and-left, and-right, not-true-of}
+use Rattle.domain.specs.Ranges.{leastLength, most, isLength, isMeasure, isPosition, slack}
+use Rattle.lists.specs.Bools.{or-left, or-right, and-left, and-right, not-true-of, cond-cases}
 use Rattle.domain.specs.Laws.{or-else-first, or-else-second, when-none}
 use Rattle.domain.specs.Refusals.{when}
 use Rattle.measures.specs.declared.Kind.{Kind}
@@ -22,8 +22,6 @@ use Rattle.measures.specs.Orders.{orders, shareOf, turned, lengthsIn}
 use Rattle.measures.specs.Faults.{recordFault, measureFault, kindFault, containerFault}
 use Rattle.sheet.specs.declared.Line.{Line}
 use Rattle.sheet.specs.Sheets.{lineFault}
-use Rattle.point_state.specs.Stores.{eps}
-use Rattle.lists.specs.Bools.{cond-cases}
 use Rattle.plan_laws.specs.Top.{less-top, more-top, end-top, low-none, low-eps, length-signed, measure-signed}
 
 holds : {b : Bool} → b ≡ true → T b
@@ -147,19 +145,20 @@ pub layer-axis : (size margin at len : Float) → isLength size ≡ true → sig
 layer-axis size margin at len h p q k e =
     let top = limit-top size margin h p in
     let far : T (le (at ⊕ len) (size ⊖ margin)) =
-    nlt→le (size ⊖ margin) (at ⊕ len) (le-number-l (size ⊖ margin) most top) (signed-number false (at ⊕ len) (add-signed binary64 at len q (not-negative len k))) (fails e) in
+    nlt→le (size ⊖ margin) (at ⊕ len) (le-number-l (size ⊖ margin) most top)
+    (signed-number false (at ⊕ len) (add-signed binary64 at len q (not-negative len k))) (fails e) in
     between at (low-none at q) (end-top at len (signed-number false at q) (least len k) (le-chain (at ⊕ len) (size ⊖ margin) most far top))
 
 -- 01: "position ≥ margin − E and position + length ≤ container − margin + E"
 pub point-axis : (size margin at len : Float) → isLength size ≡ true → signed false margin → T (not (isNan at)) → isLength len ≡ true
-    → lt at (margin ⊖ eps) ≡ false → lt (size ⊖ margin ⊕ eps) (at ⊕ len) ≡ false → isPosition at ≡ true
+    → lt at (margin ⊖ slack) ≡ false → lt (size ⊖ margin ⊕ slack) (at ⊕ len) ≡ false → isPosition at ≡ true
 point-axis size margin at len h p q k e f =
     let low = low-eps margin p in
     let top = more-top (size ⊖ margin) (limit-top size margin h p) in
-    let near : T (le (margin ⊖ eps) at) = nlt→le at (margin ⊖ eps) q (number-r (neg most) (margin ⊖ eps) low) (fails e) in
+    let near : T (le (margin ⊖ slack) at) = nlt→le at (margin ⊖ slack) q (number-r (neg most) (margin ⊖ slack) low) (fails e) in
     let number : T (not (isNan (at ⊕ len))) =
     subst (λ (v : Float). T (not (isNan v))) (add-commutes binary64 len at) (add-number binary64 len at (length-finite len k) q) in
-    let far : T (le (at ⊕ len) (size ⊖ margin ⊕ eps)) =
-    nlt→le (size ⊖ margin ⊕ eps) (at ⊕ len) (le-number-l (size ⊖ margin ⊕ eps) most top) number (fails f) in
-    between at (le-chain (neg most) (margin ⊖ eps) at low near)
-    (end-top at len q (least len k) (le-chain (at ⊕ len) (size ⊖ margin ⊕ eps) most far top))
+    let far : T (le (at ⊕ len) (size ⊖ margin ⊕ slack)) =
+    nlt→le (size ⊖ margin ⊕ slack) (at ⊕ len) (le-number-l (size ⊖ margin ⊕ slack) most top) number (fails f) in
+    between at (le-chain (neg most) (margin ⊖ slack) at low near)
+    (end-top at len q (least len k) (le-chain (at ⊕ len) (size ⊖ margin ⊕ slack) most far top))

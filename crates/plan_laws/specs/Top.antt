@@ -15,9 +15,8 @@ use Rattle.floats.specs.Ops.{none, _⊕_, _⊖_}
 use Rattle.floats.specs.Compare.{says, said}
 use Rattle.floats.specs.Order.{signed, round-signed, le-chain, nlt→le, lt→le}
 use Rattle.floats.specs.Weak.{true-false}
-use Rattle.domain.specs.Ranges.{leastLength, most, isMeasure}
+use Rattle.domain.specs.Ranges.{leastLength, most, isMeasure, slack}
 use Rattle.lists.specs.Bools.{and-left, and-right}
-use Rattle.point_state.specs.Stores.{eps}
 
 -- what is negative is at most what is not
 under : (v w : Float) → signed true v → signed false w → T (le v w)
@@ -96,7 +95,8 @@ less-top (fin s m e) (inf false) h p = tt
 less-top (fin s m e) (fin true n d) h p = absurd (true≢false p)
 less-top (fin true m e) (fin false n d) h p =
     subst (λ (k : Float). T (le (sum binary64 true (m * up e * down d) true (n * up d * down e) (down e * down d)) k)) top-is
-    (sum-under binary64 (down e * down d) 1000000000 1 (mul-pos (down-pos e) (down-pos d)) (zero-lt-suc 0) true (m * up e * down d) true (n * up d * down e) (omega arith))
+    (sum-under binary64 (down e * down d) 1000000000 1 (mul-pos (down-pos e) (down-pos d)) (zero-lt-suc 0) true (m * up e * down d) true (n * up d * down e)
+    (omega arith))
 less-top (fin false m e) (fin false n d) h p =
     subst (λ (k : Float). T (le (sum binary64 false (m * up e * down d) true (n * up d * down e) (down e * down d)) k)) top-is
     (sum-under binary64 (down e * down d) 1000000000 1 (mul-pos (down-pos e) (down-pos d)) (zero-lt-suc 0) false (m * up e * down d) true (n * up d * down e)
@@ -106,18 +106,20 @@ past-fits : (M K E X D : ℕ) → X * 1 ≤ M * D → (X * K + E * 1 * D) * K �
 past-fits M K E X D h = let a = mul-le-mul-right K (mul-le-mul-right K h) in omega arith
 
 -- and E, which is less than half a step there
-pub more-top : (v : Float) → T (le v most) → T (le (v ⊕ eps) most)
+pub more-top : (v : Float) → T (le v most) → T (le (v ⊕ slack) most)
 unfolding le add ofBits
 more-top nan h = absurd h
 more-top (inf false) h = absurd h
 more-top (inf true) h = tt
 more-top (fin true m e) h =
     subst (λ (k : Float). T (le (sum binary64 true (m * up e * 2 ^ 82) false (4835703278458517 * 1 * down e) (down e * 2 ^ 82)) k)) past-is
-    (sum-under binary64 (down e * 2 ^ 82) (1000000000 * 2 ^ 82 + 4835703278458517) (2 ^ 82) (mul-pos (down-pos e) (pow-pos 82)) (pow-pos 82) true (m * up e * 2 ^ 82) false (4835703278458517 * 1 * down e)
+    (sum-under binary64 (down e * 2 ^ 82) (1000000000 * 2 ^ 82 + 4835703278458517) (2 ^ 82) (mul-pos (down-pos e) (pow-pos 82)) (pow-pos 82) true
+    (m * up e * 2 ^ 82) false (4835703278458517 * 1 * down e)
     (past-fits 1000000000 (2 ^ 82) 4835703278458517 0 (down e) (omega arith)))
 more-top (fin false m e) h =
     subst (λ (k : Float). T (le (sum binary64 false (m * up e * 2 ^ 82) false (4835703278458517 * 1 * down e) (down e * 2 ^ 82)) k)) past-is
-    (sum-under binary64 (down e * 2 ^ 82) (1000000000 * 2 ^ 82 + 4835703278458517) (2 ^ 82) (mul-pos (down-pos e) (pow-pos 82)) (pow-pos 82) false (m * up e * 2 ^ 82) false (4835703278458517 * 1 * down e)
+    (sum-under binary64 (down e * 2 ^ 82) (1000000000 * 2 ^ 82 + 4835703278458517) (2 ^ 82) (mul-pos (down-pos e) (pow-pos 82)) (pow-pos 82) false
+    (m * up e * 2 ^ 82) false (4835703278458517 * 1 * down e)
     (past-fits 1000000000 (2 ^ 82) 4835703278458517 (m * up e) (down e) (says false (m * up e * 1) false (1953125 * 2 ^ 9 * down e) h)))
 
 -- ---- what is past 1,000,000,000 is not within it with a length added
@@ -150,7 +152,9 @@ too-far (fin false m e) (fin false n d) h k l =
     let P = 1000000000 * 2 ^ 72 + 4722366482869645 in
     let r : T (le (round binary64 false P (2 ^ 72)) (round binary64 false (m * up e * down d + n * up d * down e) (down e * down d))) =
     round-mono binary64 P (2 ^ 72) (m * up e * down d + n * up d * down e) (down e * down d) (pow-pos 72) (mul-pos (down-pos e) (down-pos d))
-    (far-fits 1000000000 (2 ^ 72) 4722366482869645 (m * up e) (down e) (n * up d) (down d) (says false (1953125 * 2 ^ 9 * down e) false (m * up e * 1) (lt→le most (fin false m e) h)) (says false (4722366482869645 * 1 * down d) false (n * up d * 2 ^ 72) k)) in
+    (far-fits 1000000000 (2 ^ 72) 4722366482869645 (m * up e) (down e) (n * up d) (down d)
+    (says false (1953125 * 2 ^ 9 * down e) false (m * up e * 1) (lt→le most (fin false m e) h))
+    (says false (4722366482869645 * 1 * down d) false (n * up d * 2 ^ 72) k)) in
     subst T over-is (le-chain (round binary64 false P (2 ^ 72)) (round binary64 false (m * up e * down d + n * up d * down e) (down e * down d)) most r l)
 
 -- ---- the two ends
@@ -192,7 +196,7 @@ neg-low (fin true m e) p h = absurd (true≢false p)
 neg-low (fin false m e) p h = said true (1953125 * 2 ^ 9 * down e) true (m * up e * 1) (says false (m * up e * 1) false (1953125 * 2 ^ 9 * down e) h)
 
 -- a measure less E
-pub low-eps : (v : Float) → signed false v → T (le (neg most) (v ⊖ eps))
+pub low-eps : (v : Float) → signed false v → T (le (neg most) (v ⊖ slack))
 unfolding sub neg add sum ofBits
 low-eps nan p = absurd p
 low-eps (inf true) p = absurd (true≢false p)
@@ -219,7 +223,8 @@ low-eps (fin false m e) p = go (ltb a b)
     go true =
         subst (λ (k : Float). T (le (neg most) k)) (sym (round-turned binary64 (b - a) c))
         (neg-low (round binary64 false (b - a) c) (round-signed binary64 false (b - a) c)
-        (subst (λ (k : Float). T (le (round binary64 false (b - a) c) k)) top-is (fewer binary64 c 1000000000 1 C (zero-lt-suc 0) (b - a) b (omega arith) (small (2 ^ 82) 4835703278458517 (down e) (lit≤ tt)))))
+        (subst (λ (k : Float). T (le (round binary64 false (b - a) c) k)) top-is
+        (fewer binary64 c 1000000000 1 C (zero-lt-suc 0) (b - a) b (omega arith) (small (2 ^ 82) 4835703278458517 (down e) (lit≤ tt)))))
     go false = low-none (round binary64 false (a - b) c) (round-signed binary64 false (a - b) c)
 
 -- ---- a length and a measure are not negative

@@ -90,7 +90,8 @@ unfolding lineWords
 six lines i = refl
 
 -- stores at neighbouring places are one run of stores
-pub six-sets : (o : List ℕ) (at a b c d e f : ℕ) → set (set (set (set (set (set o at a) (at + 1) b) (at + 2) c) (at + 3) d) (at + 4) e) (at + 5) f ≡ sets o at (a ∷ b ∷ c ∷ d ∷ e ∷ f ∷ [])
+pub six-sets : (o : List ℕ) (at a b c d e f : ℕ)
+    → set (set (set (set (set (set o at a) (at + 1) b) (at + 2) c) (at + 3) d) (at + 4) e) (at + 5) f ≡ sets o at (a ∷ b ∷ c ∷ d ∷ e ∷ f ∷ [])
 six-sets o at a b c d e f =
     let p1 : at + 1 ≡ suc at = omega arith in
     let p2 : at + 2 ≡ suc (suc at) = omega arith in

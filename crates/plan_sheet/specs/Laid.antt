@@ -1,15 +1,15 @@
 -- A plan's lines in lent columns, a cell for each line, and what is told of the plan beside them.
+use mathlib.Core.Path.{_≡_}
 use mathlib.Core.Bool.{cond}
 use mathlib.Core.List.{List}
 use Prim.Native.Nat.{ℕ}
 use lib.Dec.{eqb}
 use lib.ListN.{getD}
-use lib.Ieee.{Float}
-use Rattle.floats.specs.Ops.{x, y, z}
 use Rattle.lists.specs.Table.{filled}
 use Rattle.sheet.specs.declared.Line.{Line}
 use Rattle.sheet.specs.declared.Sheet.{Sheet}
 use Rattle.sheet.specs.Sheets.{noLine}
+use Rattle.sheet.specs.Columns.{Columns, idOf, instanceOf, orientationOf, xOf, yOf, zOf}
 use Rattle.file_read.specs.Reading.{sheetOf, refusalOf}
 use Rattle.plan_sheet.specs.declared.Plan.{Plan}
 use Rattle.plan_sheet.specs.declared.Told.{Told}
@@ -31,21 +31,19 @@ placedAt p i = getD (p .lines) i noLine
 unfoldable pub laid : {A : Type 0} → (Line → A) → List A → Plan → List A
 laid part old p = filled old (λ i. part (placedAt p i)) (p .placed)
 
--- ---- what a column has of a line
-abbrev pub idOf : Line → ℕ
-idOf l = l .id
+-- all six
+abbrev pub laidIn : Columns → Plan → Columns
+laidIn old p =
+    record {
+      ids = laid idOf (old .ids) p;
+      instances = laid instanceOf (old .instances) p;
+      turns = laid orientationOf (old .turns) p;
+      xs = laid xOf (old .xs) p;
+      ys = laid yOf (old .ys) p;
+      zs = laid zOf (old .zs) p;
+    }
 
-abbrev pub instanceOf : Line → ℕ
-instanceOf l = l .instance
-
-abbrev pub orientationOf : Line → ℕ
-orientationOf l = l .orientation
-
-abbrev pub xOf : Line → Float
-xOf l = x (l .at)
-
-abbrev pub yOf : Line → Float
-yOf l = y (l .at)
-
-abbrev pub zOf : Line → Float
-zOf l = z (l .at)
+-- what a call that lays a plan ends with: what it tells, and the columns
+pub record Lays (p : Plan) (r : Told) (old new : Columns) : Type 0 where
+  pub told-is : r ≡ toldOf p
+  pub columns-are : new ≡ laidIn old p

@@ -4,3 +4,5 @@ pub mod Hand
 pub mod Boxes
 pub mod Planned
 pub mod Laid
+pub mod Columns
+pub mod LaidLaws

@@ -1,9 +1,10 @@
 -- The planned sheet.
 use mathlib.Core.Bool.{cond}
 use mathlib.Core.List.{List}
-use Prim.Native.Nat.{ℕ, zero, suc}
+use Prim.Native.Nat.{ℕ}
 use lib.Dec.{eqb}
-use lib.ListN.{getD, set, replicate}
+use lib.ListN.{getD}
+use Rattle.lists.specs.Table.{table}
 use Rattle.domain.specs.Bounds.{mostKinds, mostUnplaced}
 use Rattle.sheet.specs.declared.Sheet.{Sheet}
 use Rattle.sheet.specs.Sheets.{emptySheet}
@@ -11,13 +12,9 @@ use Rattle.plan_sheet.specs.declared.Plan.{Plan}
 use Rattle.plan_sheet.specs.declared.PlanSheet.{PlanSheet}
 use Rattle.plan_sheet.specs.Plans.{planRefusal}
 
--- the first n ids in a store of as many as a sheet may list
-unfoldable pub idsTo : List ℕ → ℕ → List ℕ
-idsTo ids zero = replicate mostUnplaced 0
-idsTo ids (suc i) = set (idsTo ids i) i (getD ids i 0)
-
+-- a plan's ids in a store of as many as a sheet may list
 abbrev pub widened : List ℕ → List ℕ
-widened ids = idsTo ids mostKinds
+widened ids = table 0 mostUnplaced (λ i. getD ids i 0) mostKinds
 
 -- the order, its own lines and unplaced ids replaced by the plan's
 unfoldable pub plannedSheet : Sheet → Plan → Sheet

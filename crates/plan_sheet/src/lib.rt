@@ -10,6 +10,10 @@ ghost use Rattle.plan_sheet.specs.Planned.{widened, plannedSheet, sheetF
 ghost use Rattle.plan_sheet.specs.Boxes.{smaller};
 ghost use Rattle.lists.specs.Rows.{wrote};
 ghost use Rattle.plan_sheet.specs.Hand.{wordsOf, lineWords, handRefusal, refusedPack, handedOf, slotsOf};
+
+mod columns; // columns.rt: a plan whose lines stand in columns
+
+pub use columns::hand_columns;
 use measures::Kind;
 use sheet::Counts;
 use sheet::Line;

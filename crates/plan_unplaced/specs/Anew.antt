@@ -56,6 +56,7 @@ unplaced-refusal order lines n = over (ltb mostLines n) refl
     own (suc r) e l = refl
 
     over : (b : Bool) → ltb mostLines n ≡ b
-        → orElse (when b 2) (orElse (sheetRefusal order) (sheetRefusal (withLines order lines n))) ≡ orElse (when b 2) (orElse (sheetRefusal order) (firstBelow (lineFaultIn lines) n))
+        → orElse (when b 2) (orElse (sheetRefusal order) (sheetRefusal (withLines order lines n))) ≡ orElse (when b 2)
+        (orElse (sheetRefusal order) (firstBelow (lineFaultIn lines) n))
     over true e = refl
     over false e = own (sheetRefusal order) refl (ltb-false mostLines n e)

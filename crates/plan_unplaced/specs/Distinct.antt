@@ -36,7 +36,8 @@ module _ (ids instances : List ℕ) (n id : ℕ) where
       (rw (e, eq-eqb (getD instances n 0) (getD instances n 0) refl))
 
   -- a line of another kind, or of an instance out of range, adds none
-  pub distinct-miss : (q : ℕ) → (eqb (getD ids n 0) id && ltb (getD instances n 0) q) ≡ false → distinctPlaced ids instances (suc n) id q ≡ distinctPlaced ids instances n id q
+  pub distinct-miss : (q : ℕ) → (eqb (getD ids n 0) id && ltb (getD instances n 0) q) ≡ false
+      → distinctPlaced ids instances (suc n) id q ≡ distinctPlaced ids instances n id q
   unfolding distinctPlaced onePlaced
   distinct-miss q h = sum-same (onePlaced ids instances (suc n) id) (onePlaced ids instances n id) q (λ i l. rw (same i l (eqb (getD ids n 0) id) refl))
     where
@@ -63,7 +64,8 @@ pub distinct-most : (ids instances : List ℕ) (n id q : ℕ) → distinctPlaced
 distinct-most ids instances zero id q = let e = distinct-none ids instances id q in omega arith
 distinct-most ids instances (suc n) id q = go (distinct-most ids instances n id q) (eqb (getD ids n 0) id && ltb (getD instances n 0) q) refl
   where
-    go : distinctPlaced ids instances n id q ≤ n → (b : Bool) → (eqb (getD ids n 0) id && ltb (getD instances n 0) q) ≡ b → distinctPlaced ids instances (suc n) id q ≤ suc n
+    go : distinctPlaced ids instances n id q ≤ n → (b : Bool) → (eqb (getD ids n 0) id && ltb (getD instances n 0) q) ≡ b
+        → distinctPlaced ids instances (suc n) id q ≤ suc n
     go m false h = let e = distinct-miss ids instances n id q h in omega arith
     go m true h =
         let e =
@@ -79,7 +81,8 @@ distinct-more ids instances n id q = go (eqb (getD ids n 0) id && ltb (getD inst
     ones true = le-refl 1
     ones false = omega arith
 
-    go : (b : Bool) → (eqb (getD ids n 0) id && ltb (getD instances n 0) q) ≡ b → distinctPlaced ids instances n id q ≤ distinctPlaced ids instances (suc n) id q
+    go : (b : Bool) → (eqb (getD ids n 0) id && ltb (getD instances n 0) q) ≡ b
+        → distinctPlaced ids instances n id q ≤ distinctPlaced ids instances (suc n) id q
     go false h = let e = distinct-miss ids instances n id q h in omega arith
     go true h =
         let e =
@@ -106,7 +109,8 @@ distinct-range ids instances n id (suc q) = let h = distinct-range ids instances
     go false h = omega arith
 
 -- once all are placed, further lines change nothing
-pub distinct-full : (ids instances : List ℕ) (j n id q : ℕ) → j ≤ n → q ≤ distinctPlaced ids instances j id q → distinctPlaced ids instances j id q ≡ distinctPlaced ids instances n id q
+pub distinct-full : (ids instances : List ℕ) (j n id q : ℕ) → j ≤ n → q ≤ distinctPlaced ids instances j id q
+    → distinctPlaced ids instances j id q ≡ distinctPlaced ids instances n id q
 distinct-full ids instances j n id q h f =
     let g = distinct-grows ids instances j n id q h in
     let r = distinct-range ids instances n id q in

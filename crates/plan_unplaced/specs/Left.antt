@@ -8,6 +8,7 @@ use native.Mathlib.Omega.{arith}
 use borrow.Author.Tests.{ltb-false}
 use lib.Dec.{eqb, ltb}
 use lib.ListN.{getD, set, replicate}
+use Rattle.lists.specs.Table.{table}
 use Rattle.domain.specs.Bounds.{mostKinds, mostLines}
 use Rattle.domain.specs.Refusals.{when, orElse, firstBelow}
 use Rattle.lists.specs.Bools.{or-left, or-right}
@@ -24,9 +25,8 @@ unfoldable pub shortKind : List Kind → List ℕ → List ℕ → ℕ → ℕ �
 shortKind kinds ids instances n k = isShort ids instances n (getD kinds k noKind .id) (getD kinds k noKind .quantity)
 
 -- a flag for each of the first m kinds, and false past them
-unfoldable pub flagsOf : List Kind → List ℕ → List ℕ → ℕ → ℕ → List Bool
-flagsOf kinds ids instances n zero = replicate mostKinds false
-flagsOf kinds ids instances n (suc m) = set (flagsOf kinds ids instances n m) m (shortKind kinds ids instances n m)
+abbrev pub flagsOf : List Kind → List ℕ → List ℕ → ℕ → ℕ → List Bool
+flagsOf kinds ids instances n m = table false mostKinds (shortKind kinds ids instances n) m
 
 -- no id, with a refusal or without
 abbrev pub noLeft : ℕ → Left

@@ -4,3 +4,5 @@ pub mod Left
 pub mod Anew
 pub mod Distinct
 pub mod Marks
+pub mod InFile
+pub mod Same

@@ -38,7 +38,8 @@ marked-none ids instances id q h =
     record {
       long = refl;
       spare = refl;
-      marks = λ i l. getD-set-other (replicate (suc mostLines) false) mostLines i true false (λ e. omega arith) ∙ getD-replicate (suc mostLines) i false false (omega arith);
+      marks = λ i l. getD-set-other (replicate (suc mostLines) false) mostLines i true false (λ e. omega arith) ∙ getD-replicate (suc mostLines) i false false
+          (omega arith);
     }
 
 -- the marks and the count after one line more, which sets the mark `at`
@@ -59,7 +60,8 @@ module _ (ids instances : List ℕ) (n id q : ℕ) (seen : List Bool) (small : q
         counts = rw (m .marks (getD instances n 0) l) (adds _ _ (isPlaced ids instances n id (getD instances n 0)) (distinct-hit ids instances n id q e l));
       }
     where
-      own : (i : ℕ) → i < q → (b : Bool) → eqb i (getD instances n 0) ≡ b → getD (set seen (getD instances n 0) true) i false ≡ isPlaced ids instances (suc n) id i
+      own : (i : ℕ) → i < q → (b : Bool) → eqb i (getD instances n 0) ≡ b
+          → getD (set seen (getD instances n 0) true) i false ≡ isPlaced ids instances (suc n) id i
       own i k true h =
           let d = eqb-true i (getD instances n 0) h in
           rw d (getD-set-same seen (getD instances n 0) true false (rw (m .long) (omega arith)) ∙ sym (placed-own ids instances n id e))

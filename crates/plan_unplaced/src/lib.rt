@@ -8,6 +8,10 @@ ghost use Rattle.domain.specs.Bounds.{mostKinds, mostLines};
 ghost use Rattle.plan_unplaced.specs.Short.{distinctPlaced, isShort, namesOf};
 ghost use Rattle.plan_unplaced.specs.Left.{flagsOf, pushIf, leftAfter, noLeft, overBound, shortsOf, leftOf, withLines, unplacedOf};
 ghost use Rattle.plan_unplaced.specs.Marks.{markOf, freshOf, noMarks};
+
+mod in_file; // in_file.rt: the list of an order in a load file
+
+pub use in_file::left_in;
 use measures::Kind;
 use sheet::Counts;
 use sheet::Line;
@@ -33,9 +37,9 @@ pub struct Left {
 }
 
 // A mark for each instance that can be in range, and a spare one.
-const MARKS: usize = 257;
+const MARKS: usize = domain::MOST_LINES + 1;
 
-const SPARE: usize = 256;
+const SPARE: usize = domain::MOST_LINES;
 
 // 1 for an instance that was not seen before.
 fn fresh(seen: bool) -> usize
@@ -51,7 +55,8 @@ fn fresh(seen: bool) -> usize
 // line's is the spare one, which is set and stays so.
 fn mark(seen: &mut [bool; MARKS], same: bool, instance: u32, quantity: u32) -> usize
     requires { ⌜ (quantity ≤ mostLines) × (getD (now seen) mostLines false ≡ true) ⌝ }
-    ensures { λ r. ⌜ (r ≡ freshOf (getD (now (seen .entry)) (markOf same instance quantity) false)) × (r ≤ 1) × (now (seen .exit) ≡ set (now (seen .entry)) (markOf same instance quantity) true) ⌝ }
+    ensures { λ r. ⌜ (r ≡ freshOf (getD (now (seen .entry)) (markOf same instance quantity) false)) × (r ≤ 1) ×
+        (now (seen .exit) ≡ set (now (seen .entry)) (markOf same instance quantity) true) ⌝ }
 {
     if same & (instance < quantity) {
         let at = instance as usize;

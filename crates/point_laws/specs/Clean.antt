@@ -11,7 +11,7 @@ use lib.Ieee.{Float, lt}
 use Rattle.floats.specs.Ops.{x, y, z}
 use Rattle.floats.specs.Weak.{lt-number-l}
 use Rattle.domain.specs.Bounds.{mostBoxes}
-use Rattle.lists.specs.Bools.{and-left}
+use Rattle.lists.specs.Bools.{and-left, cond-cases}
 use Rattle.measures.specs.declared.Kind.{Kind}
 use Rattle.measures.specs.declared.Container.{Container}
 use Rattle.measures.specs.Orders.{lengthsIn}
@@ -20,9 +20,9 @@ use Rattle.point_place.specs.declared.Tried.{Tried}
 use Rattle.point_state.specs.declared.ExtremePointSet.{ExtremePointSet}
 use Rattle.point_state.specs.Triples.{cells, mostPoints, three, put3, put3-length, put3-keeps}
 use Rattle.point_state.specs.Stores.{pointAt}
-use Rattle.lists.specs.Bools.{cond-cases}
-use Rattle.point_place.specs.Choose.{bestOf, scan-found}
-use Rattle.point_place.specs.Grow.{Stock, dropped, added, countWith, pointsWith, count-with, Between, alongX, alongY, alongZ, cornersOf, valid, stockBy, stockOf, stock-few, putBox, settled}
+use Rattle.point_scan.specs.Choose.{bestOf, scan-found}
+use Rattle.point_grow.specs.Grow.{Stock, dropped, added, countWith, pointsWith, count-with, Between, alongX, alongY, alongZ, cornersOf, valid, stockBy}
+use Rattle.point_grow.specs.Grow.{stockOf, stock-few, putBox, afterBox}
 use Rattle.point_place.specs.Place.{refusalOf, labelOf, placedBy, triedOf, Ready, ready}
 use Rattle.point_laws.specs.Least.{Sound}
 
@@ -82,12 +82,14 @@ module _ (s : ExtremePointSet) (k : ℕ) (size : List Float) (h : Clean s) (l : 
       let b₂ : Between (s₁ .live) (s₂ .live) (s₁ .live + 1) = count-with (new .alongy) (s₁ .live) in
       let p = h .sound k l in
       let h₀ : Whole s₀ = drop-whole _ k l (omega arith) (record { long = h .points-long; sound = h .sound }) in
-      let h₁ : Whole s₁ = add-whole s₀ (new .alongx) _ (omega arith) (λ e. record { x-is = lt-number-l _ _ (short-of _ _ _ _ _ _ e); y-is = p .y-is; z-is = p .z-is }) h₀ in
-      let h₂ : Whole s₂ = add-whole s₁ (new .alongy) _ (omega arith) (λ e. record { x-is = p .x-is; y-is = lt-number-l _ _ (short-of _ _ _ _ _ _ e); z-is = p .z-is }) h₁ in
+      let h₁ : Whole s₁ = add-whole s₀ (new .alongx) _ (omega arith)
+      (λ e. record { x-is = lt-number-l _ _ (short-of _ _ _ _ _ _ e); y-is = p .y-is; z-is = p .z-is }) h₀ in
+      let h₂ : Whole s₂ = add-whole s₁ (new .alongy) _ (omega arith)
+      (λ e. record { x-is = p .x-is; y-is = lt-number-l _ _ (short-of _ _ _ _ _ _ e); z-is = p .z-is }) h₁ in
       add-whole s₂ (new .alongz) _ (omega arith) (λ e. record { x-is = p .x-is; y-is = p .y-is; z-is = lt-number-l _ _ (short-of _ _ _ _ _ _ e) }) h₂
 
-  settled-clean : (label : Label) → Clean (settled s k label size)
-  unfolding settled putBox
+  settled-clean : (label : Label) → Clean (afterBox s k label size)
+  unfolding afterBox putBox
   settled-clean label =
       let w = stock-whole in
       let f = stock-few s k size l in

@@ -3,7 +3,8 @@
 use mathlib.Core.Path.{_≡_, refl, sym, _∙_, ap}
 use mathlib.Core.Bool.{Bool, true, false, not, cond, _&&_, _||_}
 use mathlib.Core.Logic.{⊎-elim}
-use mathlib.Core.List.{List, [], _∷_, _++_, map, List·Permᴰ, List·Permᴰ·nil, List·Permᴰ·cons, List·Permᴰ·swap, List·Permᴰ·trans, Permᴰ·refl, Permᴰ·symm, Permᴰ·middle, Permᴰ·append-nil}
+use mathlib.Core.List.{List, [], _∷_, _++_, map, List·Permᴰ, List·Permᴰ·nil, List·Permᴰ·cons, List·Permᴰ·swap, List·Permᴰ·trans, Permᴰ·refl, Permᴰ·symm}
+use mathlib.Core.List.{Permᴰ·middle, Permᴰ·append-nil}
 use Prim.Native.Nat.{ℕ, zero, suc, _<_, _≤_, suc-le-suc}
 use native.Mathlib.Nat.{not-suc-le-zero, le-of-suc-le-suc, eq-or-lt-of-le}
 use native.Mathlib.Omega.{arith}
@@ -17,7 +18,8 @@ use Rattle.domain.specs.Bounds.{mostBoxes}
 use Rattle.measures.specs.declared.Kind.{Kind}
 use Rattle.plan_boxes.specs.declared.Instance.{Instance}
 use Rattle.plan_boxes.specs.Turns.{turnOf}
-use Rattle.plan_boxes.specs.Listing.{noInstance, atMostAll, listingOf, listed-length, listing-at}
+use Rattle.lists.specs.Table.{table-length}
+use Rattle.plan_boxes.specs.Listing.{noInstance, atMostAll, listingOf, listing-at}
 use Rattle.point_run.specs.Order.{volumeOf, insert, fallingOf, fallingBoxes}
 use Rattle.point_run.specs.Insert.{insert-length, insert-all, falling-length, falling-below, map-length}
 
@@ -76,7 +78,8 @@ up-at (suc n) i l =
 pub listing-is : (kinds : List Kind) (n : ℕ) → n ≤ mostBoxes → take n (listingOf kinds n) ≡ map (turnOf kinds) (upTo n)
 unfolding turnOf listingOf
 listing-is kinds n few =
-    let long : length (take n (listingOf kinds n)) ≡ n = length-take-le n (listingOf kinds n) (rw (listed-length (turnOf kinds) (atMostAll n)) few) in
+    let long : length (take n (listingOf kinds n)) ≡ n = length-take-le n (listingOf kinds n)
+    (rw (table-length noInstance mostBoxes (turnOf kinds) (atMostAll n)) few) in
     ext-getD noInstance (take n (listingOf kinds n)) (map (turnOf kinds) (upTo n)) (long ∙ sym (map-length (turnOf kinds) (upTo n) ∙ up-length n))
     (λ i l.
     let h : i < n = rw long at l in
@@ -174,7 +177,7 @@ sorted-of vol [] o = tt
 sorted-of vol (u ∷ l) o =
     (λ i k. o zero (suc i) (omega arith) (suc-le-suc k), sorted-of vol l (λ i j h k. o (suc i) (suc j) (suc-le-suc h) (suc-le-suc k)))
 
--- 01: "by falling volume, equal volumes in listing order", where the volumes are numbers
+-- by falling volume, equal volumes in listing order, where the volumes are numbers
 pub falling-ordered : (vol : ℕ → Float) (n : ℕ) → ((t : ℕ) → t < n → Number (vol t)) → Ordered vol (fallingOf vol n)
 falling-ordered vol n h = ordered-of vol (fallingOf vol n) (falling-sorted vol n h)
 

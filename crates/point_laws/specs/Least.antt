@@ -1,17 +1,18 @@
 -- The scan finds the least point that passes, and says that there is none exactly when none passes, where no point holds a NaN.
 use mathlib.Core.Path.{_≡_, refl, sym, _∙_}
 use mathlib.Core.Bool.{Bool, true, false, not, cond, _&&_, _||_}
-use mathlib.Core.Logic.{⊎-elim}
 use mathlib.Core.List.{List}
 use Prim.Native.Nat.{ℕ, zero, suc, _<_}
-use native.Mathlib.Nat.{eq-or-lt-of-le, le-of-suc-le-suc, not-suc-le-zero}
+use native.Mathlib.Nat.{not-suc-le-zero}
 use native.Mathlib.Omega.{arith}
 use lib.Ieee.{Float}
 use Rattle.floats.specs.Ops.{x, y, z}
+use Rattle.lists.specs.Below.{upto}
 use Rattle.floats.specs.Weak.{Number, Weak, on-weak, lex-weak, true-false}
 use Rattle.point_state.specs.Triples.{three}
-use Rattle.point_place.specs.declared.Choice.{Choice}
-use Rattle.point_place.specs.Choose.{sooner, takes, stepBy, scanBy, scan-found}
+use Rattle.point_scan.specs.declared.Choice.{Choice}
+use Rattle.point_fit.specs.Sooner.{sooner}
+use Rattle.point_scan.specs.Choose.{takes, stepBy, scanBy, scan-found}
 
 -- a point without a NaN
 pub record Sound (v : List Float) : Type 0 where
@@ -23,15 +24,11 @@ pub sooner-weak : Weak Sound sooner
 unfolding sooner
 sooner-weak = lex-weak (on-weak z (λ v h. h .z-is)) (lex-weak (on-weak y (λ v h. h .y-is)) (on-weak x (λ v h. h .x-is)))
 
--- the choice c among the first n point_place: it passes and no point that passes stands before it, or none passes
+-- the choice c among the first n points: it passes and no point that passes stands before it, or none passes
 pub record Right (passes : ℕ → Bool) (points : List Float) (n : ℕ) (c : Choice) : Type 0 where
   pub passing : c .found ≡ true → passes (c .index) ≡ true
   pub least : c .found ≡ true → (j : ℕ) → j < n → passes j ≡ true → sooner (three points j) (three points (c .index)) ≡ false
   pub absent : c .found ≡ false → (j : ℕ) → j < n → passes j ≡ false
-
--- below suc n: below n, or n
-upto : (P : ℕ → Type 0) (n : ℕ) → ((j : ℕ) → j < n → P j) → P n → (j : ℕ) → j < suc n → P j
-upto P n below at j h = ⊎-elim (λ e. rw e at) (λ l. below j l) (eq-or-lt-of-le (le-of-suc-le-suc h))
 
 module _ (passes : ℕ → Bool) (points : List Float) where
   -- point j does not stand before point k
@@ -50,7 +47,8 @@ module _ (passes : ℕ → Bool) (points : List Float) where
       itself false e = refl
       itself true e = sym e ∙ sooner-weak .asym (three points n) (three points n) e
 
-      keep : c .found ≡ true → sooner (three points n) (three points (c .index)) ≡ false → Right passes points (suc n) (record { found = true; index = c .index })
+      keep : c .found ≡ true → sooner (three points n) (three points (c .index)) ≡ false
+          → Right passes points (suc n) (record { found = true; index = c .index })
       keep f s =
           record { passing = λ _. h .passing f; least = λ _. upto (Behind (c .index)) n (h .least f) (λ _. s); absent = λ e. true-false e }
 
@@ -67,12 +65,14 @@ module _ (passes : ℕ → Bool) (points : List Float) where
           record { passing = λ _. g; least = λ _. upto (Behind n) n l (λ _. itself _ refl); absent = λ e. true-false e }
 
       -- j does not stand before n, which stands before the choice so far
-      behind : c .found ≡ true → sooner (three points n) (three points (c .index)) ≡ true → (j : ℕ) → j < n → passes j ≡ true → (v : Bool) → sooner (three points j) (three points n) ≡ v → v ≡ false
+      behind : c .found ≡ true → sooner (three points n) (three points (c .index)) ≡ true → (j : ℕ) → j < n → passes j ≡ true → (v : Bool)
+          → sooner (three points j) (three points n) ≡ v → v ≡ false
       behind f s j l g false e = refl
       behind f s j l g true e =
           let a = three points n in
           let b = three points j in
-          true-false (sym (sooner-weak .neg a b (three points (c .index)) (sound n (omega arith)) (sound j (omega arith)) (sound (c .index) (omega (arith, w f))) s (sooner-weak .asym b a e)) ∙ h .least f j l g)
+          true-false (sym (sooner-weak .neg a b (three points (c .index)) (sound n (omega arith)) (sound j (omega arith))
+          (sound (c .index) (omega (arith, w f))) s (sooner-weak .asym b a e)) ∙ h .least f j l g)
 
       go : (f : Bool) → c .found ≡ f → (s : Bool) → sooner (three points n) (three points (c .index)) ≡ s → (g : Bool) → passes n ≡ g → Goal f s g
       go true ef false es g eg = keep ef es

@@ -22,8 +22,9 @@ use Rattle.point_state.specs.Stores.{pointAt}
 use Rattle.point_place.specs.declared.Tried.{Tried}
 use Rattle.point_place.specs.declared.Answer.the-variants.{Stands, NoRoom, Refused}
 use Rattle.lists.specs.Bools.{cond-cases}
-use Rattle.point_place.specs.Choose.{bestOf, scan-found}
-use Rattle.point_place.specs.Grow.{Stock, dropped, added, countWith, pointsWith, count-with, Between, alongX, alongY, alongZ, cornersOf, stockBy, stockOf, settled}
+use Rattle.point_scan.specs.Choose.{bestOf, scan-found}
+use Rattle.point_grow.specs.Grow.{Stock, dropped, added, countWith, pointsWith, count-with, Between, alongX, alongY, alongZ, cornersOf, stockBy, stockOf}
+use Rattle.point_grow.specs.Grow.{afterBox}
 use Rattle.point_place.specs.Place.{stood, refusalOf, labelOf, placedBy, triedOf, ready}
 use Rattle.point_laws.specs.Clean.{Clean}
 use Rattle.point_laws.specs.Reach.{Reached, reached-clean}
@@ -40,7 +41,7 @@ pointsOf s = firstOf (s .points) (s .live)
 abbrev plus : Bool → List Float → List (List Float) → List (List Float)
 plus kept at l = cond kept (at ∷ l) l
 
--- 01: "Three points follow, each moving one axis .., kept only if": these points with the kept ones of a box of these lengths placed at `at`
+-- these points with the kept ones of a box of these lengths placed at `at`
 abbrev pub withKept : ExtremePointSet → List Float → List Float → List (List Float) → List (List Float)
 withKept s at size l =
     let new = cornersOf (s .container) (s .boxes) (s .held) at size in
@@ -91,7 +92,12 @@ add-list : (s : Stock) (kept : Bool) (at : List Float) → s .live < mostPoints 
     → listed (added kept at s) ≡ plus kept (x at ∷ y at ∷ z at ∷ []) (listed s)
 unfolding countWith pointsWith firstOf
 add-list s true at room long =
-    rw (add-one (s .live), three-same (s .points) (s .live) at (rw long (omega arith)), first-same (put3 (s .points) (s .live) at) (s .points) (s .live) (λ j l. three-other (s .points) (s .live) j at (λ q. omega arith)))
+    rw (
+      add-one (s .live),
+      three-same (s .points) (s .live) at (rw long (omega arith)),
+      first-same (put3 (s .points) (s .live) at) (s .points) (s .live)
+          (λ j l. three-other (s .points) (s .live) j at (λ q. omega arith)),
+    )
 add-list s false at room long = refl
 
 add-long : (s : Stock) (kept : Bool) (at : List Float) → length (s .points) ≡ cells → length (added kept at s .points) ≡ cells
@@ -120,26 +126,32 @@ module _ (s : ExtremePointSet) (k : ℕ) (size : List Float) (h : Clean s) (l : 
       let n₂ : length (s₂ .points) ≡ cells = add-long s₁ (new .alongy) (alongY (new .past) at) n₁ in
       let e : suc (s .live - 1) ≡ s .live = omega arith in
       let p₀ : List·Permᴰ (at ∷ listed s₀) (pointsOf s) = rw e at (drop-perm (s .points) (s .live - 1) k (omega arith) (h .points-long) (omega arith)) in
-      rw (add-list s₂ (new .alongz) (alongZ (new .past) at) (omega arith) n₂, add-list s₁ (new .alongy) (alongY (new .past) at) (omega arith) n₁, add-list s₀ (new .alongx) (alongX (new .past) at) (omega arith) n₀)
+      rw (
+        add-list s₂ (new .alongz) (alongZ (new .past) at) (omega arith) n₂,
+        add-list s₁ (new .alongy) (alongY (new .past) at) (omega arith) n₁,
+        add-list s₀ (new .alongx) (alongX (new .past) at) (omega arith) n₀,
+      )
       (plus-perm at (new .alongz) _ _ _ (plus-perm at (new .alongy) _ _ _ (plus-perm at (new .alongx) _ _ _ p₀)))
 
 -- ---- the place call
 
--- 01: "The first that passes is removed. Three points follow"
+-- a box that stands: its point is removed, and the new points that are kept come. RULES: First placer: new points
 pub points-after : {s : ExtremePointSet} (kind : Kind) (instance o : ℕ) → Reached s → stood (triedOf s kind instance o .answer) ≡ true
-    → List·Permᴰ (triedOf s kind instance o .at ∷ pointsOf (triedOf s kind instance o .next)) (withKept s (triedOf s kind instance o .at) (lengthsIn kind o) (pointsOf s))
-unfolding triedOf placedBy bestOf settled
+    → List·Permᴰ (triedOf s kind instance o .at ∷ pointsOf (triedOf s kind instance o .next))
+    (withKept s (triedOf s kind instance o .at) (lengthsIn kind o) (pointsOf s))
+unfolding triedOf placedBy bestOf afterBox
 points-after {s} kind instance o r =
     let size = lengthsIn kind o in
     let c = bestOf s size in
-    cond-cases (λ (t : Tried). stood (t .answer) ≡ true → List·Permᴰ (t .at ∷ pointsOf (t .next)) (withKept s (t .at) size (pointsOf s))) (eqb (refusalOf (s .live) (s .held) kind) 0)
+    cond-cases (λ (t : Tried). stood (t .answer) ≡ true → List·Permᴰ (t .at ∷ pointsOf (t .next)) (withKept s (t .at) size (pointsOf s)))
+    (eqb (refusalOf (s .live) (s .held) kind) 0)
     (λ e.
     cond-cases (λ (t : Tried). stood (t .answer) ≡ true → List·Permᴰ (t .at ∷ pointsOf (t .next)) (withKept s (t .at) size (pointsOf s))) (c .found)
     (λ f _. stock-perm s (c .index) size (reached-clean r) (scan-found _ (s .points) (s .live) f) (ready _ _ kind (eqb-true _ 0 e) .room))
     (λ _ q. true-false (sym q)))
     (λ _ q. true-false (sym q))
 
--- 01: "With none passing, the points as a multiset and the boxes stay." They stay as they are, in every state and on a refusal too.
+-- with none passing the points and the boxes stay. They stay as they are, in every state and on a refusal too.
 pub points-stay : (s : ExtremePointSet) (kind : Kind) (instance o : ℕ) → stood (triedOf s kind instance o .answer) ≡ false → triedOf s kind instance o .next ≡ s
 unfolding triedOf placedBy
 points-stay s kind instance o =

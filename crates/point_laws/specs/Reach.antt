@@ -11,7 +11,7 @@ use borrow.Author.Tests.{eq-eqb, ne-eqb, le-ltb}
 use lib.Dec.{eqb, ltb}
 use lib.ListN.{length, replicate, length-replicate}
 use lib.Ieee.{Float, le}
-use Rattle.floats.specs.Ops.{none, x, y, z}
+use Rattle.floats.specs.Ops.{none, x, y, z, nowhere}
 use Rattle.floats.specs.Order.{le-number-l}
 use Rattle.floats.specs.Weak.{Number, true-false}
 use Rattle.domain.specs.Bounds.{mostBoxes}
@@ -28,13 +28,14 @@ use Rattle.point_place.specs.declared.Tried.{Tried}
 use Rattle.point_place.specs.declared.Answer.{Answer}
 use Rattle.point_place.specs.declared.Answer.the-variants.{Stands, NoRoom, Refused}
 use Rattle.point_state.specs.Triples.{cells, put3-length, put3-keeps}
-use Rattle.point_place.specs.Fit.{fitsAt}
+use Rattle.point_scan.specs.Passes.{fitsAt}
 use Rattle.point_state.specs.Stores.{pointAt}
-use Rattle.point_place.specs.declared.Choice.{Choice}
-use Rattle.point_place.specs.Choose.{sooner, bestOf, scan-found}
-use Rattle.point_place.specs.Grow.{settled}
-use Rattle.point_state.specs.Fresh.{nowhere, blank, startOf, freshOf}
-use Rattle.point_state.specs.Reads.{overCounts}
+use Rattle.point_scan.specs.declared.Choice.{Choice}
+use Rattle.point_fit.specs.Sooner.{sooner}
+use Rattle.point_scan.specs.Choose.{bestOf, scan-found}
+use Rattle.point_grow.specs.Grow.{afterBox}
+use Rattle.point_state.specs.Fresh.{blank, startOf, freshOf}
+use Rattle.point_state.specs.Counts.{overCounts}
 use Rattle.point_place.specs.Place.{refusalOf, labelOf, placedBy, triedOf, stood}
 use Rattle.point_laws.specs.Least.{Sound, Right, scan-right}
 use Rattle.point_laws.specs.Clean.{Clean, tried-clean}
@@ -64,7 +65,8 @@ start-clean c e =
       points-long = put3-length _ 0 _ ∙ length-replicate cells none;
       boxes-long = length-replicate cells none;
       labels-long = length-replicate mostBoxes blank;
-      sound = λ j l. put3-keeps Sound (replicate cells none) 0 j _ (rw (length-replicate cells none) (omega arith)) first (λ n. absurd (n (below j (rw fair at l))));
+      sound = λ j l. put3-keeps Sound (replicate cells none) 0 j _ (rw (length-replicate cells none) (omega arith)) first
+          (λ n. absurd (n (below j (rw fair at l))));
     }
   where
     fair : containerFault c ≡ false
@@ -80,7 +82,7 @@ pub reached-clean : {s : ExtremePointSet} → Reached s → Clean s
 reached-clean (start c e) = start-clean c e
 reached-clean (next {s} kind instance orientation r) = tried-clean s kind instance orientation (reached-clean r)
 
--- ---- 01: "It is proved that stored points never exceed 1 plus twice the boxes placed, so no run from a fresh state refuses for it."
+-- ---- stored points never exceed 1 plus twice the boxes placed, so no run from a fresh state is refused for it. RULES: Numbers that bound it
 
 pub points-bounded : {s : ExtremePointSet} → Reached s → s .live ≤ 1 + 2 * s .held
 points-bounded r = reached-clean r .few
@@ -105,8 +107,8 @@ pub record Chosen (s : ExtremePointSet) (size at : List Float) : Type 0 where
 abbrev pub Shut : ExtremePointSet → List Float → Type 0
 Shut s size = (j : ℕ) → j < s .live → fitsAt s (pointAt s j) size ≡ false
 
--- 00, demand 2: "a box offered in one orientation goes to the least stored point that passes, by height, then depth, then width; it doesn't
--- fit exactly when no stored point passes"
+-- a box offered in one orientation goes to the least stored point that passes, by height, then depth, then width; it doesn't fit exactly when no stored
+-- point passes. RULES: First placer: point test
 pub record Answered (s : ExtremePointSet) (size : List Float) (t : Tried) : Type 0 where
   pub either : (t .answer ≡ Stands) ⊎ (t .answer ≡ NoRoom)
   pub stands : t .answer ≡ Stands → Chosen s size (t .at)
@@ -131,7 +133,12 @@ answered-by s kind instance orientation h = go (c .found) refl
     right : Right (λ i. fitsAt s (pointAt s i) size) (s .points) (s .live) c
     right = scan-right _ (s .points) (s .live) (h .sound)
 
-    go : (f : Bool) → c .found ≡ f → Answered s size (cond f (record { answer = Stands; at = pointAt s (c .index); next = settled s (c .index) (labelOf kind instance) size }) (record { answer = NoRoom; at = nowhere; next = s }))
+    go : (f : Bool) → c .found ≡ f → Answered s size (cond f (record {
+      answer = Stands;
+      at = pointAt s (c .index);
+      next = afterBox s (c .index)
+          (labelOf kind instance) size;
+    }) (record { answer = NoRoom; at = nowhere; next = s }))
     go true f =
         record {
           either = inl refl;

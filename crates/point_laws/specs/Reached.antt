@@ -5,9 +5,9 @@ use Prim.Native.Nat.{ℕ}
 use Rattle.measures.specs.declared.Kind.{Kind}
 use Rattle.plan_boxes.specs.declared.Instance.{Instance}
 use Rattle.point_state.specs.declared.ExtremePointSet.{ExtremePointSet}
-use Rattle.point_place.specs.Fill.{filledBy}
-use Rattle.point_place.specs.Keeps.{fill-keeps}
+use Rattle.point_stow.specs.Stow.{stowedBy}
+use Rattle.point_stow.specs.Keeps.{stow-keeps}
 use Rattle.point_laws.specs.Reach.{Reached, next}
 
-pub fill-reached : (s : ExtremePointSet) (kinds : List Kind) (items : List Instance) (n : ℕ) → Reached s → Reached (filledBy s kinds items n .next)
-fill-reached = fill-keeps Reached (λ s kind instance o r. next kind instance o r)
+pub stow-reached : (s : ExtremePointSet) (kinds : List Kind) (items : List Instance) (n : ℕ) → Reached s → Reached (stowedBy s kinds items n .next)
+stow-reached = stow-keeps Reached (λ s kind instance o r. next kind instance o r)

@@ -1,4 +1,5 @@
--- What the plan of an accepted order tells: it is not refused, the number considered is 01's, and no more boxes are placed than were considered.
+-- What the plan of an accepted order tells: it is not refused, the number considered is the smaller of that asked for and the total, and no more
+-- boxes are placed than were considered.
 use mathlib.Core.Path.{_≡_, refl}
 use mathlib.Core.Bool.{Bool, true, false}
 use mathlib.Core.List.{List}
@@ -22,27 +23,28 @@ use Rattle.plan_unplaced.specs.declared.Left.{Left}
 use Rattle.plan_unplaced.specs.Left.{leftAfter, leftOf, left-fair}
 use Rattle.plan_boxes.specs.declared.Instance.{Instance}
 use Rattle.plan_boxes.specs.Listing.{noInstance}
-use Rattle.point_place.specs.declared.Filled.{Filled}
+use Rattle.point_stow.specs.declared.Stowed.{Stowed}
 use Rattle.point_place.specs.declared.Tried.{Tried}
 use Rattle.point_state.specs.declared.ExtremePointSet.{ExtremePointSet}
 use Rattle.lists.specs.Bools.{cond-cases}
-use Rattle.point_place.specs.Choose.{bestOf}
-use Rattle.point_place.specs.Grow.{settled}
+use Rattle.point_scan.specs.Choose.{bestOf}
+use Rattle.point_grow.specs.Grow.{afterBox}
 use Rattle.point_state.specs.Fresh.{startOf, freshOf}
 use Rattle.point_place.specs.Place.{stood, refusalOf, placedBy, triedOf}
 use Rattle.point_state.specs.Boxes.{totalMass}
-use Rattle.point_place.specs.Fill.{Attempt, tooHeavy, attemptOf, turnOf, filledBy}
+use Rattle.point_stow.specs.Stow.{Attempt, attemptOf, turnOf, stowedBy}
+use Rattle.point_step.specs.Pick.{tooHeavy}
 use Rattle.plan_sheet.specs.declared.Plan.{Plan}
 use Rattle.plan_sheet.specs.Boxes.{smaller}
 use Rattle.plan_sheet.specs.Plans.{leftBy, plannedOf}
 use Rattle.point_run.specs.Order.{fallingBoxes}
-use Rattle.point_run.specs.Runs.{planFrom, fillOf, epPackingOf, smaller-le}
+use Rattle.point_run.specs.Runs.{planFrom, runOf, epPackingOf, smaller-le}
 use Rattle.point_run.specs.Kinds.{boxes-few}
 
 -- ---- each box considered adds at most one to those placed
 
 tried-adds : (s : ExtremePointSet) (kind : Kind) (instance o : ℕ) → triedOf s kind instance o .next .held ≤ s .held + 1
-unfolding triedOf placedBy settled
+unfolding triedOf placedBy afterBox
 tried-adds s kind instance o =
     cond-cases (λ (t : Tried). t .next .held ≤ s .held + 1) (eqb (refusalOf (s .live) (s .held) kind) 0)
     (λ _. cond-cases (λ (t : Tried). t .next .held ≤ s .held + 1) (bestOf s (lengthsIn kind o) .found) (λ _. le-refl (s .held + 1)) (λ _. omega arith))
@@ -56,29 +58,29 @@ attempt-adds s kind instance (suc o) =
     (λ _. attempt-adds s kind instance o)
     (λ _. tried-adds s kind instance o)
 
-turn-adds : (kind : Kind) (instance : ℕ) (f : Filled) → turnOf kind instance f .next .held ≤ f .next .held + 1
+turn-adds : (kind : Kind) (instance : ℕ) (f : Stowed) → turnOf kind instance f .next .held ≤ f .next .held + 1
 unfolding turnOf
 turn-adds kind instance f =
     let a = attemptOf (f .next) kind instance (length (shareOf (kind .rule))) in
-    cond-cases (λ (g : Filled). g .next .held ≤ f .next .held + 1) (tooHeavy (f .next .container .limit) (totalMass (f .next)) kind)
+    cond-cases (λ (g : Stowed). g .next .held ≤ f .next .held + 1) (tooHeavy (f .next .container .limit) (totalMass (f .next)) kind)
     (λ _. omega arith)
     (λ _.
-    cond-cases (λ (g : Filled). g .next .held ≤ f .next .held + 1) (stood (a .tried .answer))
+    cond-cases (λ (g : Stowed). g .next .held ≤ f .next .held + 1) (stood (a .tried .answer))
     (λ _. attempt-adds (f .next) kind instance (length (shareOf (kind .rule))))
     (λ _. omega arith))
 
-fill-adds : (s : ExtremePointSet) (kinds : List Kind) (items : List Instance) (n : ℕ) → filledBy s kinds items n .next .held ≤ s .held + n
-unfolding filledBy
-fill-adds s kinds items zero = omega arith
-fill-adds s kinds items (suc n) =
+stow-adds : (s : ExtremePointSet) (kinds : List Kind) (items : List Instance) (n : ℕ) → stowedBy s kinds items n .next .held ≤ s .held + n
+unfolding stowedBy
+stow-adds s kinds items zero = omega arith
+stow-adds s kinds items (suc n) =
     let item = getD items n noInstance in
-    let h = fill-adds s kinds items n in
-    let k = turn-adds (getD kinds (item .kind) noKind) (item .instance) (filledBy s kinds items n) in
+    let h = stow-adds s kinds items n in
+    let k = turn-adds (getD kinds (item .kind) noKind) (item .instance) (stowedBy s kinds items n) in
     omega arith
 
-fill-no-more : (c : Container) (kinds : List Kind) (all n : ℕ) → fillOf c kinds all n .next .held ≤ n
-unfolding fillOf startOf
-fill-no-more c kinds all n = let h = fill-adds (freshOf c .set) kinds (fallingBoxes kinds all) n in omega arith
+run-no-more : (c : Container) (kinds : List Kind) (all n : ℕ) → runOf c kinds all n .next .held ≤ n
+unfolding runOf startOf
+run-no-more c kinds all n = let h = stow-adds (freshOf c .set) kinds (fallingBoxes kinds all) n in omega arith
 
 -- ---- a plan of lines that are few enough is not refused
 
@@ -97,13 +99,13 @@ unfolding plannedOf
 planned-told kinds m lines n considered u h k =
     rw (by-fair kinds m lines n h k) (record { not-refused = refl; considered-is = refl; placed-is = refl })
 
--- ---- 01: "the result states how many were considered, skipped ones included: the smaller of that number and the total"
+-- ---- how many were considered, skipped ones included. RULES: First placer: run
 
 abbrev pub considers : Sheet → ℕ → ℕ
 considers order consider = smaller consider (boxesIn (order .kinds) (order .many .kinds))
 
-abbrev pub fillBy : Sheet → ℕ → Filled
-fillBy order consider = fillOf (order .container) (order .kinds) (boxesIn (order .kinds) (order .many .kinds)) (considers order consider)
+abbrev pub runBy : Sheet → ℕ → Stowed
+runBy order consider = runOf (order .container) (order .kinds) (boxesIn (order .kinds) (order .many .kinds)) (considers order consider)
 
 considers-few : (order : Sheet) (consider : ℕ) → sheetRefusal order ≡ 0 → considers order consider ≤ mostBoxes
 considers-few order consider z =
@@ -111,13 +113,15 @@ considers-few order consider z =
     let f = boxes-few order (accepted order z) in
     omega arith
 
-pub placed-few : (order : Sheet) (consider : ℕ) → sheetRefusal order ≡ 0 → fillBy order consider .next .held ≤ considers order consider
+pub placed-few : (order : Sheet) (consider : ℕ) → sheetRefusal order ≡ 0 → runBy order consider .next .held ≤ considers order consider
 placed-few order consider z =
-    fill-no-more (order .container) (order .kinds) (boxesIn (order .kinds) (order .many .kinds)) (considers order consider)
+    run-no-more (order .container) (order .kinds) (boxesIn (order .kinds) (order .many .kinds)) (considers order consider)
 
-pub plan-told : (order : Sheet) (consider : ℕ) → sheetRefusal order ≡ 0 → Told (epPackingOf order consider) (considers order consider) (fillBy order consider .next .held)
+pub plan-told : (order : Sheet) (consider : ℕ) → sheetRefusal order ≡ 0
+    → Told (epPackingOf order consider) (considers order consider) (runBy order consider .next .held)
 unfolding epPackingOf planFrom
 plan-told order consider z =
     let h = placed-few order consider z in
     let k = considers-few order consider z in
-    rw z (planned-told (order .kinds) (order .many .kinds) _ (fillBy order consider .next .held) (considers order consider) _ (accepted order z .few-of .kinds) (omega arith))
+    rw z (planned-told (order .kinds) (order .many .kinds) _ (runBy order consider .next .held) (considers order consider) _
+    (accepted order z .few-of .kinds) (omega arith))

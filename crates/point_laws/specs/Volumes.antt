@@ -85,7 +85,8 @@ volume-number k e =
 
 pub volumes-numbers : (order : Sheet) → Accepted order → (t : ℕ) → t < boxesIn (order .kinds) (order .many .kinds) → Number (volumeOf (order .kinds) t)
 unfolding volumeOf
-volumes-numbers order a t l = volume-number (kindAt order (turnOf (order .kinds) t .kind)) (a .kind-sound (turnOf (order .kinds) t .kind) (turn-kind order a t l) .measures-right)
+volumes-numbers order a t l = volume-number (kindAt order (turnOf (order .kinds) t .kind))
+    (a .kind-sound (turnOf (order .kinds) t .kind) (turn-kind order a t l) .measures-right)
 
 -- the order in which an accepted order's boxes are taken is the stable one by falling volume
 pub order-falls : (order : Sheet) → Accepted order

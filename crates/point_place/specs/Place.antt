@@ -1,4 +1,4 @@
--- The place call.
+-- The place call. RULES: First placer: point test · Refusals
 use mathlib.Core.Path.{_≡_}
 use mathlib.Core.Bool.{Bool, true, false, cond}
 use mathlib.Core.List.{List}
@@ -7,6 +7,7 @@ use native.Mathlib.Omega.{arith}
 use borrow.Author.Tests.{eqb-false}
 use lib.Dec.{eqb}
 use lib.Ieee.{Float}
+use Rattle.floats.specs.Ops.{nowhere}
 use Rattle.domain.specs.Bounds.{mostBoxes}
 use Rattle.domain.specs.Refusals.{when, orElse}
 use Rattle.domain.specs.Laws.{or-else-first, or-else-second, when-none}
@@ -14,22 +15,41 @@ use Rattle.measures.specs.declared.Kind.{Kind}
 use Rattle.measures.specs.Orders.{lengthsIn}
 use Rattle.measures.specs.Faults.{kindFault}
 use Rattle.point_state.specs.declared.Label.{Label}
-use Rattle.point_place.specs.declared.Choice.{Choice}
 use Rattle.point_state.specs.declared.ExtremePointSet.{ExtremePointSet}
+use Rattle.point_state.specs.Stores.{pointAt}
+use Rattle.point_state.specs.Counts.{overCounts, within-counts}
+use Rattle.point_grow.specs.Grow.{afterBox}
+use Rattle.point_scan.specs.declared.Choice.{Choice}
+use Rattle.point_scan.specs.Choose.{bestOf}
 use Rattle.point_place.specs.declared.Tried.{Tried}
 use Rattle.point_place.specs.declared.Answer.{Answer}
 use Rattle.point_place.specs.declared.Answer.the-variants.{Stands, NoRoom, Refused}
-use Rattle.point_state.specs.Stores.{pointAt}
-use Rattle.point_place.specs.Choose.{bestOf}
-use Rattle.point_state.specs.Fresh.{nowhere}
-use Rattle.point_state.specs.Reads.{overCounts, within-counts}
-use Rattle.point_place.specs.Grow.{settled}
 
--- what 01's words are for each answer: the box stands; it doesn't fit, which is no refusal; the refusal's number
-abbrev pub numberOf : Answer → ℕ
-numberOf Stands = 0
-numberOf NoRoom = 0
-numberOf (Refused n) = n
+-- ---- what each answer tells, in the numbers and values of docs/RULES.md
+
+pub record Word : Type 0 where
+  pub number : ℕ
+  pub stands : Bool
+  pub at : List Float
+
+-- the refusal's number; no room, which is no refusal; the box stands at p
+abbrev pub refusedBy : ℕ → Word
+refusedBy n = record { number = n; stands = false; at = nowhere }
+
+abbrev pub noRoom : Word
+noRoom = record { number = 0; stands = false; at = nowhere }
+
+abbrev pub standsAt : List Float → Word
+standsAt p = record { number = 0; stands = true; at = p }
+
+-- for each answer, with the position beside it
+abbrev pub wordOf : Answer → List Float → Word
+wordOf Stands at = standsAt at
+wordOf NoRoom at = noRoom
+wordOf (Refused n) at = refusedBy n
+
+abbrev pub said : Tried → Word
+said t = wordOf (t .answer) (t .at)
 
 abbrev pub stood : Answer → Bool
 stood Stands = true
@@ -38,7 +58,7 @@ stood (Refused n) = false
 
 -- ---- the place call
 
--- 01: 2 for the state; at the kind 4, 3; then 7, "a place call on a placer that already holds 256 boxes"
+-- 2 for the state; the kind's own, 4 and then 3; 7 for a placer that holds as many boxes as it can
 unfoldable pub refusalOf : ℕ → ℕ → Kind → ℕ
 refusalOf live held kind = orElse (when (overCounts live held) 2) (orElse (kindFault kind false) (when (eqb held mostBoxes) 7))
 
@@ -49,7 +69,7 @@ labelOf kind instance = record { id = kind .id; instance = instance; mass = kind
 unfoldable pub placedBy : ExtremePointSet → Label → List Float → Choice → Tried
 placedBy s label size c =
     cond (c .found)
-    (record { answer = Stands; at = pointAt s (c .index); next = settled s (c .index) label size })
+    (record { answer = Stands; at = pointAt s (c .index); next = afterBox s (c .index) label size })
     (record { answer = NoRoom; at = nowhere; next = s })
 
 -- a place call: for every state, kind, instance and orientation
@@ -73,7 +93,7 @@ ready live held kind e =
     let w = within-counts live held (when-none (overCounts live held) 1 (or-else-first (when (overCounts live held) 2) _ e)) in
     let n = eqb-false held mostBoxes (when-none (eqb held mostBoxes) 6 (or-else-second (kindFault kind false) _ rest)) in
     record {
-      few = w .1;
+      few = w .few;
       room = omega (arith, n);
       kind-right = or-else-first (kindFault kind false) _ rest;
     }

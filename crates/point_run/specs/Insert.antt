@@ -17,7 +17,7 @@ use Rattle.sheet.specs.Sheets.{noKind}
 use Rattle.plan_boxes.specs.declared.Instance.{Instance}
 use Rattle.plan_boxes.specs.Turns.{turnOf}
 use Rattle.plan_boxes.specs.Listing.{noInstance, listingOf}
-use Rattle.point_run.specs.Stored.{stored, stored-length, stored-at}
+use Rattle.lists.specs.Table.{table, table-length, table-at, filled}
 use Rattle.point_run.specs.Order.{volumeOf, insert, fallingOf, fallingBoxes}
 
 -- the kinds of the first n boxes are in the store
@@ -246,26 +246,26 @@ map-length f (x ∷ l) = ap suc (map-length f l)
 -- the boxes at the places
 pub boxes-fall : (kinds : List Kind) (n : ℕ) (boxes : List Instance) (p : List ℕ) → n ≤ mostBoxes → length p ≡ mostBoxes
     → ((t : ℕ) → t < n → getD boxes t noInstance ≡ turnOf kinds t)
-    → take n p ≡ fallingOf (λ t. getD (stored none (volumeBy kinds boxes) n) t nan) n
-    → take n (stored noInstance (boxBy boxes p) n) ≡ fallingBoxes kinds n
+    → take n p ≡ fallingOf (λ t. getD (table none mostBoxes (volumeBy kinds boxes) n) t nan) n
+    → take n (table noInstance mostBoxes (boxBy boxes p) n) ≡ fallingBoxes kinds n
 unfolding fallingBoxes boxBy turnOf volumeOf volumeBy
 boxes-fall kinds n boxes p few long same e =
     ext-getD noInstance (take n r) (fallingBoxes kinds n) (len ∙ sym fallen) (λ i l. at i (rw len at l))
   where
     r : List Instance
-    r = stored noInstance (boxBy boxes p) n
+    r = table noInstance mostBoxes (boxBy boxes p) n
 
     vol : ℕ → Float
-    vol = λ t. getD (stored none (volumeBy kinds boxes) n) t nan
+    vol = λ t. getD (table none mostBoxes (volumeBy kinds boxes) n) t nan
 
     len : length (take n r) ≡ n
-    len = length-take-le n r (rw (stored-length noInstance (boxBy boxes p) n) few)
+    len = length-take-le n r (rw (table-length noInstance mostBoxes (boxBy boxes p) n) few)
 
     fallen : length (fallingBoxes kinds n) ≡ n
     fallen = map-length (turnOf kinds) (fallingOf (volumeOf kinds) n) ∙ falling-length (volumeOf kinds) n
 
     by-volume : (t : ℕ) → t < n → vol t ≡ volumeOf kinds t
-    by-volume t l = stored-at none (volumeBy kinds boxes) n t nan few l ∙ rw (same t l)
+    by-volume t l = table-at none mostBoxes (volumeBy kinds boxes) n t nan few l ∙ rw (same t l)
 
     place : (i : ℕ) → i < n → getD p i 0 ≡ getD (fallingOf (volumeOf kinds) n) i 0
     place i l = place-is vol p n long e i l ∙ ap (λ (k : List ℕ). getD k i 0) (falling-same vol (volumeOf kinds) n by-volume)
@@ -273,6 +273,6 @@ boxes-fall kinds n boxes p few long same e =
     at : (i : ℕ) → i < n → getD (take n r) i noInstance ≡ getD (fallingBoxes kinds n) i noInstance
     at i l =
         getD-take n r i noInstance l
-        ∙ (stored-at noInstance (boxBy boxes p) n i noInstance few l
+        ∙ (table-at noInstance mostBoxes (boxBy boxes p) n i noInstance few l
         ∙ (same (getD p i 0) (place-below vol p n long e i l)
         ∙ (ap (turnOf kinds) (place i l) ∙ sym (List·getD-map (turnOf kinds) (fallingOf (volumeOf kinds) n) i 0))))

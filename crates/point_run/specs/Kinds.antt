@@ -12,7 +12,8 @@ use Rattle.point_run.specs.Insert.{Turned}
 pub boxes-few : (order : Sheet) → Accepted order → boxesIn (order .kinds) (order .many .kinds) ≤ mostBoxes
 boxes-few order a = let e = boxes-are order a in let f = a .boxes-few in omega arith
 
-pub turn-kind : (order : Sheet) → Accepted order → (t : ℕ) → t < boxesIn (order .kinds) (order .many .kinds) → turnOf (order .kinds) t .kind < order .many .kinds
+pub turn-kind : (order : Sheet) → Accepted order → (t : ℕ) → t < boxesIn (order .kinds) (order .many .kinds)
+    → turnOf (order .kinds) t .kind < order .many .kinds
 turn-kind order a t l =
     let e = boxes-are order a in
     turn-right (order .kinds) (order .many .kinds) (some-boxes order a) t (omega arith) .kind-is

@@ -1,6 +1,7 @@
 -- The extreme-point placer's run: the order of the boxes, and the plan.
-pub mod Stored
 pub mod Order
 pub mod Insert
 pub mod Kinds
 pub mod Runs
+pub mod Lay
+pub mod LayPlan

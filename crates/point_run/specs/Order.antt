@@ -1,4 +1,4 @@
--- The order in which a run takes the boxes.
+-- The order in which a run takes the boxes. RULES: First placer: run
 use mathlib.Core.Bool.{cond}
 use mathlib.Core.List.{List, [], _∷_, map}
 use Prim.Native.Nat.{ℕ, zero, suc}
@@ -19,7 +19,7 @@ unfoldable pub insert : (ℕ → Float) → ℕ → List ℕ → List ℕ
 insert vol t [] = t ∷ []
 insert vol t (u ∷ l) = cond (lt (vol u) (vol t)) (t ∷ u ∷ l) (u ∷ insert vol t l)
 
--- 01: "takes boxes by falling volume, equal volumes in listing order": the places in the listing of the first n boxes, in that order
+-- by falling volume, equal volumes in listing order: the places in the listing of the first n boxes, in that order
 unfoldable pub fallingOf : (ℕ → Float) → ℕ → List ℕ
 fallingOf vol zero = []
 fallingOf vol (suc t) = insert vol t (fallingOf vol t)

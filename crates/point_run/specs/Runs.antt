@@ -1,4 +1,4 @@
--- The plan of a run.
+-- The plan of a run. RULES: First placer: run · Plans
 use mathlib.Core.Path.{_≡_, refl, sym, _∙_, ap}
 use mathlib.Core.Bool.{Bool, true, false, not, cond}
 use mathlib.Core.List.{List, map}
@@ -11,8 +11,8 @@ use lib.ListN.{getD, take, List·getD-map}
 use lib.Seq.{getD-take}
 use lib.Ieee.{Float}
 use Rattle.floats.specs.Ops.{_⊘_}
-use Rattle.domain.specs.Bounds.{mostBoxes}
-use Rattle.lists.specs.Below.{anyBelow}
+use Rattle.domain.specs.Bounds.{mostLines, mostBoxes}
+use Rattle.lists.specs.Below.{anyBelow, none-any}
 use Rattle.domain.specs.Refusals.{orElse}
 use Rattle.measures.specs.declared.Kind.{Kind}
 use Rattle.measures.specs.declared.Container.{Container}
@@ -25,20 +25,20 @@ use Rattle.sheet.specs.Accepted.{Accepted, accepted}
 use Rattle.plan_boxes.specs.declared.Instance.{Instance}
 use Rattle.plan_boxes.specs.Listing.{noInstance}
 use Rattle.plan_boxes.specs.Turns.{turnOf}
-use Rattle.point_place.specs.declared.Filled.{Filled}
+use Rattle.point_stow.specs.declared.Stowed.{Stowed}
 use Rattle.point_state.specs.declared.Label.{Label}
 use Rattle.point_state.specs.Triples.{three}
 use Rattle.point_state.specs.declared.ExtremePointSet.{ExtremePointSet}
 use Rattle.point_state.specs.Boxes.{noLabel, totalVolume}
-use Rattle.point_state.specs.Reads.{over}
-use Rattle.point_state.specs.Fresh.{freshOf}
-use Rattle.point_place.specs.Fill.{filledBy, isPast, fillRefusal, filledOf}
-use Rattle.point_place.specs.Keeps.{fill-within}
+use Rattle.point_state.specs.Counts.{over}
+use Rattle.point_state.specs.Fresh.{startOf, freshOf}
+use Rattle.point_stow.specs.Stow.{stowedBy, isPast, stowRefusal, stowedOf}
+use Rattle.point_stow.specs.Keeps.{stow-within}
 use Rattle.plan_sheet.specs.declared.Plan.{Plan}
 use Rattle.plan_sheet.specs.Boxes.{smaller}
 pub use Rattle.plan_sheet.specs.Boxes.{smaller-le}
 use Rattle.plan_sheet.specs.Plans.{blankLine, refusedPlan, plannedOf}
-use Rattle.point_run.specs.Stored.{stored}
+use Rattle.lists.specs.Table.{table, filled}
 use Rattle.point_run.specs.Order.{volumeOf, fallingOf, fallingBoxes}
 use Rattle.point_run.specs.Insert.{falling-below}
 use Rattle.point_run.specs.Kinds.{boxes-few, turn-kind}
@@ -54,40 +54,35 @@ lineBy labels boxes orientations i =
       at = three boxes (2 * i);
     }
 
-abbrev pub lineOf : Filled → ℕ → Line
+abbrev pub lineOf : Stowed → ℕ → Line
 lineOf f = lineBy (f .next .labels) (f .next .boxes) (f .orientations)
 
--- the plan of a fill that n boxes were considered for: a line for each placed box, in the order placed
-unfoldable pub planFrom : Container → List Kind → ℕ → Filled → ℕ → Plan
+-- the plan for which n boxes were considered: a line for each placed box, in the order placed
+unfoldable pub planFrom : Container → List Kind → ℕ → Stowed → ℕ → Plan
 planFrom c kinds m f n =
-    plannedOf kinds m (stored blankLine (lineOf f) (f .next .held)) (f .next .held) n (totalVolume (f .next) ⊘ volume (c .size))
+    plannedOf kinds m (table blankLine mostLines (lineOf f) (f .next .held)) (f .next .held) n (totalVolume (f .next) ⊘ volume (c .size))
 
 -- the first n of all the boxes by falling volume, placed one after the other in a fresh state
-unfoldable pub fillOf : Container → List Kind → ℕ → ℕ → Filled
-fillOf c kinds all n = filledBy (freshOf c .set) kinds (fallingBoxes kinds all) n
+unfoldable pub runOf : Container → List Kind → ℕ → ℕ → Stowed
+runOf c kinds all n = stowedBy (freshOf c .set) kinds (fallingBoxes kinds all) n
 
--- 01: "takes boxes by falling volume .. Its stop closure becomes a number of boxes to consider; .. the smaller of that number and the
--- total. The answer is that of the rule over just those boxes."
+-- the boxes by falling volume, as many as are to be considered, and no more than there are; the answer is that of the rule over just those boxes
 unfoldable pub epPackingOf : Sheet → ℕ → Plan
 epPackingOf order consider =
     let kinds = order .kinds in
     let all = boxesIn kinds (order .many .kinds) in
     let n = smaller consider all in
-    cond (eqb (sheetRefusal order) 0) (planFrom (order .container) kinds (order .many .kinds) (fillOf (order .container) kinds all n) n)
+    cond (eqb (sheetRefusal order) 0) (planFrom (order .container) kinds (order .many .kinds) (runOf (order .container) kinds all n) n)
     (refusedPlan (sheetRefusal order))
 
 -- ---- laws
 
-none-below : (p : ℕ → Bool) (n : ℕ) → ((i : ℕ) → i < n → p i ≡ false) → anyBelow p n ≡ false
-unfolding anyBelow
-none-below p zero h = refl
-none-below p (suc n) h = rw (none-below p n (λ i l. h i (omega arith)), h n (omega arith))
-
--- a fill goes by its items alone
-filled-same : (s : ExtremePointSet) (kinds : List Kind) (a b : List Instance) (n : ℕ) → ((i : ℕ) → i < n → getD a i noInstance ≡ getD b i noInstance) → filledBy s kinds a n ≡ filledBy s kinds b n
-unfolding filledBy
-filled-same s kinds a b zero h = refl
-filled-same s kinds a b (suc n) h = rw (h n (omega arith), filled-same s kinds a b n (λ i l. h i (omega arith)))
+-- boxes are placed by their items alone
+stowed-same : (s : ExtremePointSet) (kinds : List Kind) (a b : List Instance) (n : ℕ) → ((i : ℕ) → i < n → getD a i noInstance ≡ getD b i noInstance)
+    → stowedBy s kinds a n ≡ stowedBy s kinds b n
+unfolding stowedBy
+stowed-same s kinds a b zero h = refl
+stowed-same s kinds a b (suc n) h = rw (h n (omega arith), stowed-same s kinds a b n (λ i l. h i (omega arith)))
 
 -- ---- a store that has the boxes by falling volume
 
@@ -104,38 +99,57 @@ module _ (order : Sheet) (n : ℕ) (boxes : List Instance) (a : Accepted order) 
   unfolding fallingBoxes turnOf
   box-kind i h =
       let t = getD (fallingOf (volumeOf (order .kinds)) all) i 0 in
-      let e : getD boxes i noInstance ≡ turnOf (order .kinds) t = box-is i h ∙ List·getD-map (turnOf (order .kinds)) (fallingOf (volumeOf (order .kinds)) all) i 0 in
+      let e : getD boxes i noInstance ≡ turnOf (order .kinds) t = box-is i h ∙ List·getD-map (turnOf (order .kinds))
+      (fallingOf (volumeOf (order .kinds)) all) i 0 in
       rw e (turn-kind order a t (falling-below (volumeOf (order .kinds)) all i (omega arith)))
 
-  -- so the fill is not refused
-  fill-accepted : sheetRefusal order ≡ 0 → fillRefusal order boxes n ≡ 0
-  unfolding fillRefusal isPast orElse
-  fill-accepted z =
+  -- so it is not refused
+  stow-accepted : sheetRefusal order ≡ 0 → stowRefusal order boxes n ≡ 0
+  unfolding stowRefusal isPast orElse
+  stow-accepted z =
       let f = boxes-few order a in
-      rw (le-ltb mostBoxes n (omega arith), z, none-below (isPast (order .many .kinds) boxes) n (λ i h. ap not (lt-ltb _ _ (box-kind i h))))
+      rw (le-ltb mostBoxes n (omega arith), z, none-any (isPast (order .many .kinds) boxes) n (λ i h. ap not (lt-ltb _ _ (box-kind i h))))
 
-  fill-falls : sheetRefusal order ≡ 0 → filledOf order boxes n ≡ fillOf (order .container) (order .kinds) all n
-  unfolding filledOf fillOf
-  fill-falls z =
-      rw (eq-eqb _ 0 (fill-accepted z)) (filled-same (freshOf (order .container) .set) (order .kinds) boxes (fallingBoxes (order .kinds) all) n box-is)
+  stow-falls : sheetRefusal order ≡ 0 → stowedOf order boxes n ≡ runOf (order .container) (order .kinds) all n
+  unfolding stowedOf runOf
+  stow-falls z =
+      rw (eq-eqb _ 0 (stow-accepted z)) (stowed-same (freshOf (order .container) .set) (order .kinds) boxes (fallingBoxes (order .kinds) all) n box-is)
+
+  -- and goes on as from an accepted container
+  stow-start : sheetRefusal order ≡ 0 → stowedBy (startOf (order .container) false) (order .kinds) boxes n ≡ runOf (order .container) (order .kinds) all n
+  unfolding runOf
+  stow-start z =
+      rw (a .container-right) (stowed-same (startOf (order .container) false) (order .kinds) boxes (fallingBoxes (order .kinds) all) n box-is)
 
 -- what the steps of the run come to
-pub run-fill : (order : Sheet) (consider all n : ℕ) (boxes : List Instance) → sheetRefusal order ≡ 0
-    → all ≡ boxesIn (order .kinds) (order .many .kinds) → n ≡ smaller consider all → take all boxes ≡ fallingBoxes (order .kinds) all
-    → filledOf order boxes n ≡ fillOf (order .container) (order .kinds) all n
-run-fill order consider all n boxes z a m falls =
-    let l : n ≤ all = rw m (smaller-le consider all) in
-    rw a (fill-falls order n boxes (accepted order z) (rw a at l) (rw a at falls) z)
+module _ (order : Sheet) (consider all n : ℕ) (boxes : List Instance) (z : sheetRefusal order ≡ 0) (a : all ≡ boxesIn (order .kinds) (order .many .kinds))
+    (m : n ≡ smaller consider all) (falls : take all boxes ≡ fallingBoxes (order .kinds) all) where
+  below : n ≤ boxesIn (order .kinds) (order .many .kinds)
+  below = rw a at (let l : n ≤ all = rw m (smaller-le consider all) in l)
 
-pub run-is : (order : Sheet) (consider refused all n : ℕ) (f : Filled) (p : Plan)
+  pub run-accepted : stowRefusal order boxes n ≡ 0
+  run-accepted = stow-accepted order n boxes (accepted order z) below (rw a at falls) z
+
+  pub run-stowed : stowedBy (startOf (order .container) false) (order .kinds) boxes n ≡ runOf (order .container) (order .kinds) all n
+  run-stowed = rw a (stow-start order n boxes (accepted order z) below (rw a at falls) z)
+
+pub run-stows : (order : Sheet) (consider all n : ℕ) (boxes : List Instance) → sheetRefusal order ≡ 0
+    → all ≡ boxesIn (order .kinds) (order .many .kinds) → n ≡ smaller consider all → take all boxes ≡ fallingBoxes (order .kinds) all
+    → stowedOf order boxes n ≡ runOf (order .container) (order .kinds) all n
+run-stows order consider all n boxes z a m falls =
+    let l : n ≤ all = rw m (smaller-le consider all) in
+    rw a (stow-falls order n boxes (accepted order z) (rw a at l) (rw a at falls) z)
+
+pub run-is : (order : Sheet) (consider refused all n : ℕ) (f : Stowed) (p : Plan)
     → refused ≡ sheetRefusal order → refused ≡ 0 → all ≡ boxesIn (order .kinds) (order .many .kinds) → n ≡ smaller consider all
-    → f ≡ fillOf (order .container) (order .kinds) all n → p ≡ planFrom (order .container) (order .kinds) (order .many .kinds) f n → p ≡ epPackingOf order consider
+    → f ≡ runOf (order .container) (order .kinds) all n → p ≡ planFrom (order .container) (order .kinds) (order .many .kinds) f n
+    → p ≡ epPackingOf order consider
 unfolding epPackingOf
 run-is order consider refused all n f p r z a m g h =
     rw (← a, ← m, ← r, eq-eqb refused 0 z)
-    (h ∙ ap (λ (k : Filled). planFrom (order .container) (order .kinds) (order .many .kinds) k n) g)
+    (h ∙ ap (λ (k : Stowed). planFrom (order .container) (order .kinds) (order .many .kinds) k n) g)
 
--- and the fill is within the bounds
-pub run-within : (c : Container) (kinds : List Kind) (all n : ℕ) → over (fillOf c kinds all n .next) ≡ false
-unfolding fillOf
-run-within c kinds all n = fill-within c (containerFault c) kinds (fallingBoxes kinds all) n
+-- and the counts are within the bounds
+pub run-within : (c : Container) (kinds : List Kind) (all n : ℕ) → over (runOf c kinds all n .next) ≡ false
+unfolding runOf
+run-within c kinds all n = stow-within c (containerFault c) kinds (fallingBoxes kinds all) n

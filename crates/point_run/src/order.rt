@@ -7,7 +7,7 @@ ghost use lib.Ieee.{nan};
 ghost use Rattle.floats.specs.Ops.{none};
 ghost use Rattle.domain.specs.Bounds.{mostBoxes};
 ghost use Rattle.plan_boxes.specs.Listing.{noInstance};
-ghost use Rattle.point_run.specs.Stored.{stored};
+ghost use Rattle.lists.specs.Table.{table};
 ghost use Rattle.point_run.specs.Order.{fallingOf, fallingBoxes};
 ghost use Rattle.point_run.specs.Insert.{InStore, Turned, Places, volumeBy, boxBy, spotOf, opened};
 use measures::Kind;
@@ -20,7 +20,7 @@ fn volumes_of(
     n: usize,
 ) -> [f64; domain::MOST_BOXES]
     requires { ⌜ (n ≤ mostBoxes) × InStore boxes n ⌝ }
-    ensures { λ r. ⌜ r ≡ stored none (volumeBy kinds boxes) n ⌝ }
+    ensures { λ r. ⌜ r ≡ table none mostBoxes (volumeBy kinds boxes) n ⌝ }
 {
     let mut volumes = [0.0; domain::MOST_BOXES];
     let mut t = 0;
@@ -91,7 +91,7 @@ fn taken(
     n: usize,
 ) -> [Instance; domain::MOST_BOXES]
     requires { ⌜ (n ≤ mostBoxes) × Places (now places) n ⌝ }
-    ensures { λ r. ⌜ r ≡ stored noInstance (boxBy boxes (now (places .entry))) n ⌝ }
+    ensures { λ r. ⌜ r ≡ table noInstance mostBoxes (boxBy boxes (now (places .entry))) n ⌝ }
 {
     let none = Instance {
         kind: 0,

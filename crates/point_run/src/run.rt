@@ -3,20 +3,20 @@ ghost use mathlib.Core.Path.{_≡_};
 ghost use mathlib.Core.Bool.{false};
 ghost use Prim.Native.Nat.{_≤_};
 ghost use lib.ListN.{length};
-ghost use Rattle.domain.specs.Bounds.{mostBoxes};
-ghost use Rattle.point_state.specs.Reads.{over};
+ghost use Rattle.domain.specs.Bounds.{mostLines, mostBoxes};
+ghost use Rattle.point_state.specs.Counts.{over};
 ghost use Rattle.plan_sheet.specs.Plans.{blankLine};
 ghost use Rattle.plan_sheet.specs.Hand.{handedOf, slotsOf};
-ghost use Rattle.point_run.specs.Stored.{stored};
+ghost use Rattle.lists.specs.Table.{table};
 ghost use Rattle.point_run.specs.Runs.{lineBy, planFrom, epPackingOf};
 use crate::order::falling_boxes;
 use measures::Container;
 use measures::Kind;
 use plan_sheet::Packed;
 use plan_sheet::Plan;
-use point_place::Filled;
 use point_state::CELLS;
 use point_state::Label;
+use point_stow::Stowed;
 use sheet::Line;
 use sheet::Sheet;
 
@@ -28,15 +28,9 @@ fn lines_of(
     n: usize,
 ) -> [Line; domain::MOST_LINES]
     requires { ⌜ n ≤ mostBoxes ⌝ }
-    ensures { λ r. ⌜ r ≡ stored blankLine (lineBy labels (now (boxes .entry)) (now (orientations .entry))) n ⌝ }
+    ensures { λ r. ⌜ r ≡ table blankLine mostLines (lineBy labels (now (boxes .entry)) (now (orientations .entry))) n ⌝ }
 {
-    let none = Line {
-        id: 0,
-        instance: 0,
-        orientation: 0,
-        bin: 0,
-        at: [0.0, 0.0, 0.0],
-    };
+    let none = sheet::blank_line();
     let mut lines = [none; domain::MOST_LINES];
     let mut i = 0;
     while i < n {
@@ -55,23 +49,23 @@ fn lines_of(
     lines
 }
 
-// The plan of a fill that n boxes were considered for.
+// The plan for which n boxes were considered.
 fn plan_of(
     container: Container,
     kinds: [Kind; domain::MOST_KINDS],
     m: usize,
-    filled: Filled,
+    stowed: Stowed,
     n: u64,
 ) -> Plan
-    requires { ⌜ over (filled .next) ≡ false ⌝ }
-    ensures { λ r. ⌜ r ≡ planFrom container kinds m filled n ⌝ }
+    requires { ⌜ over (stowed .next) ≡ false ⌝ }
+    ensures { λ r. ⌜ r ≡ planFrom container kinds m stowed n ⌝ }
 {
-    let next = filled.next;
+    let next = stowed.next;
     let labels = next.labels;
-    let orientations = filled.orientations;
+    let orientations = stowed.orientations;
     let lines = lines_of(labels, &next.boxes, &orientations, next.held);
     let size = container.size;
-    let volume = point_state::total_volume(next);
+    let volume = point_totals::total_volume(next);
     let utilization = volume.amount / measures::measure(size);
     plan_sheet::planned(kinds, m, lines, next.held, n, utilization)
 }
@@ -91,13 +85,14 @@ pub fn ep_packing(order: Sheet, consider: u64) -> Plan
     let all = sheet::boxes_in(kinds, m);
     let n = plan_sheet::smaller(consider, all);
     let boxes = falling_boxes(kinds, all as usize);
-    let filled = point_place::fill_in_order(order, boxes, n as usize);
-    plan_of(container, kinds, m, filled, n)
+    let stowed = point_stow::stow_in_order(order, boxes, n as usize);
+    plan_of(container, kinds, m, stowed, n)
 }
 
 // The same into lent words, six to a line.
 pub fn run_ep_packing(order: Sheet, consider: u64, slots: &mut [u64]) -> Packed
-    ensures { λ r. ⌜ (r ≡ handedOf (epPackingOf order consider) (length (now (slots .entry)))) × (now (slots .exit) ≡ slotsOf (epPackingOf order consider) (now (slots .entry))) ⌝ }
+    ensures { λ r. ⌜ (r ≡ handedOf (epPackingOf order consider) (length (now (slots .entry))))
+        × (now (slots .exit) ≡ slotsOf (epPackingOf order consider) (now (slots .entry))) ⌝ }
 {
     let p = ep_packing(order, consider);
     plan_sheet::hand_out(p, slots)

@@ -1,4 +1,4 @@
--- A fresh state.
+-- A fresh state. RULES: First placer: state
 use mathlib.Core.Bool.{Bool, cond}
 use mathlib.Core.List.{List, [], _∷_}
 use lib.ListN.{replicate}
@@ -13,13 +13,10 @@ use Rattle.point_state.specs.declared.ExtremePointSet.{ExtremePointSet}
 use Rattle.point_state.specs.declared.Fresh.{Fresh}
 use Rattle.point_state.specs.Triples.{cells, put3}
 
-abbrev pub nowhere : List Float
-nowhere = none ∷ none ∷ none ∷ []
-
 abbrev pub blank : Label
 blank = record { id = 0; instance = 0; mass = none; massed = 0 }
 
--- 01: "The first point is (margin, margin, margin)." Of a refused container there is none, and nothing fits.
+-- no box, and one point, the margin on every axis; of a refused container there is no point, and nothing fits
 unfoldable pub startOf : Container → Bool → ExtremePointSet
 startOf c fault =
     record {
@@ -31,6 +28,6 @@ startOf c fault =
       labels = replicate mostBoxes blank;
     }
 
--- 01: "3 for the container block"
+-- a container out of range is refused by 3
 abbrev pub freshOf : Container → Fresh
 freshOf c = record { refused = when (containerFault c) 3; set = startOf c (containerFault c) }

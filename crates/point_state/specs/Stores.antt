@@ -1,13 +1,9 @@
 -- The stores of a state: its points and its placed boxes.
 use mathlib.Core.List.{List}
 use Prim.Native.Nat.{ℕ, _+_, _*_}
-use lib.Ieee.{Float, binary64, ofBits}
+use lib.Ieee.{Float}
 use Rattle.point_state.specs.declared.ExtremePointSet.{ExtremePointSet}
 use Rattle.point_state.specs.Triples.{three}
-
--- 01: "With E = 1e-9"
-abbrev pub eps : Float
-eps = ofBits binary64 0x3e112e0be826d695
 
 -- stored point i
 abbrev pub pointAt : ExtremePointSet → ℕ → List Float

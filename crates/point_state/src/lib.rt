@@ -1,36 +1,22 @@
-// The extreme-point placer's state (extreme_point.rs, `ExtremePointSet` and `PlacedBox`), by value: a fresh one, and what can be
-// read of any.
+// The extreme-point placer's state (extreme_point.rs, `ExtremePointSet` and `PlacedBox`), by value: a fresh one, its stores, and
+// the bounds of its counts.
 ghost use mathlib.Core.Path.{_≡_};
 ghost use mathlib.Core.Bool.{cond};
-ghost use Rattle.point_state.specs.Boxes.{maxCorner, overlapping};
+ghost use Rattle.point_state.specs.Boxes.{massWith};
+ghost use Rattle.point_state.specs.Counts.{overCounts};
 ghost use Rattle.point_state.specs.Fresh.{freshOf};
 
-mod reads; // reads.rt: the calls that only read a state
-mod totals; // totals.rt: the totals over the placed boxes
 mod triples; // triples.rt: flat stores of triples
 
 use measures::Container;
-pub use reads::Amount;
-pub use reads::Count;
-pub use reads::Flag;
-pub use reads::Found;
-pub use reads::is_empty;
-pub use reads::len;
-pub use reads::over_counts;
-pub use reads::placed_box;
-pub use reads::placed_count;
-pub use reads::total_mass;
-pub use reads::total_volume;
-pub use totals::mass_with;
+pub use triples::put_triple;
 pub use triples::sum3;
+pub use triples::triple_at;
 
 // The stores hold triples: a point each, and two for each placed box.
 pub const POINTS: usize = 1 + 2 * domain::MOST_BOXES;
 
 pub const CELLS: usize = 3 * POINTS;
-
-// The slack of every test of this placer.
-pub const E: f64 = 1e-9;
 
 // What a placed box is known by: its kind's id, its instance, and its mass where `massed` is not 0.
 pub struct Label {
@@ -40,8 +26,8 @@ pub struct Label {
     pub massed: u8,
 }
 
-// The state: `live` points are stored, and `held` boxes are placed. Point k is triple k of `point_place`; placed box i has its
-// position in triple 2i of `plan_boxes` and its dimensions in triple 2i + 1.
+// The state: `live` points are stored, and `held` boxes are placed. Point k is triple k of `points`; placed box i has its
+// position in triple 2i of `boxes` and its dimensions in triple 2i + 1.
 pub struct ExtremePointSet {
     pub container: Container,
     pub live: usize,
@@ -65,6 +51,26 @@ pub struct PlacedBox {
 pub struct Fresh {
     pub refused: u32,
     pub set: ExtremePointSet,
+}
+
+// Whether there are more boxes placed than the stores can hold, or more points stored than so many boxes can leave.
+pub fn over_counts(live: usize, held: usize) -> bool
+    ensures { λ r. ⌜ r ≡ overCounts live held ⌝ }
+{
+    if held > domain::MOST_BOXES {
+        return true;
+    }
+    live > 1 + 2 * held
+}
+
+// The mass with one more box: one without a mass adds nothing.
+pub fn mass_with(sum: f64, massed: u8, mass: f64) -> f64
+    ensures { λ r. ⌜ r ≡ massWith sum massed mass ⌝ }
+{
+    if measures::has_mass(massed) {
+        return sum + mass;
+    }
+    sum
 }
 
 fn first_count(fault: bool) -> usize
@@ -104,26 +110,4 @@ pub fn new(container: Container) -> Fresh
         refused: domain::given(fault, 3),
         set,
     }
-}
-
-// The far corner of a placed box.
-pub fn max_corner(b: PlacedBox) -> [f64; 3]
-    ensures { λ r. ⌜ r ≡ maxCorner b ⌝ }
-{
-    let position = b.position;
-    let dimensions = b.dimensions;
-    sum3(position, dimensions)
-}
-
-// Whether two boxes overlap by more than the slack on every axis.
-pub fn overlaps(a: PlacedBox, b: PlacedBox) -> bool
-    ensures { λ r. ⌜ r ≡ overlapping a b ⌝ }
-{
-    let p = a.position;
-    let q = b.position;
-    let pe = max_corner(a);
-    let qe = max_corner(b);
-    !(((p[0] >= qe[0] - E) | (q[0] >= pe[0] - E))
-        | (((p[1] >= qe[1] - E) | (q[1] >= pe[1] - E))
-            | ((p[2] >= qe[2] - E) | (q[2] >= pe[2] - E))))
 }

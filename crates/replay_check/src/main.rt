@@ -47,47 +47,48 @@ fn words_of(found: usize) -> usize {
     found * 5
 }
 
-// Checks the sheet with room for n words.
-fn checked_in(s: Sheet, out: &mut [u64], n: usize) -> Checked {
+// Checks the load file with room for n words.
+fn checked_in(f: &[u8], out: &mut [u64], n: usize) -> Checked {
     if n <= out.len() {
-        return check_packing::check_packing(s, &mut out[..n]);
+        return check_packing::check_packing(f, &mut out[..n]);
     }
-    check_packing::check_packing(s, out)
+    check_packing::check_packing(f, out)
 }
 
 // With room for `room` words, which is enough: the findings expected, and the words past them unchanged.
-fn lists(b: &[u8], at: usize, s: Sheet, found: usize, room: usize) -> bool {
+fn lists(b: &[u8], at: usize, f: &[u8], found: usize, room: usize) -> bool {
     let listed = replay_vectors::size(replay_vectors::u32_at(b, replay_vectors::past(at, 4)));
     let mut out = [UNTOUCHED; WORDS];
-    let c = checked_in(s, &mut out, room);
+    let c = checked_in(f, &mut out, room);
     let words = same_words(b, replay_vectors::past(at, 8), &out, words_of(listed));
     (c.refused == 0) & ((c.count == found) & (words & untouched(&out, words_of(found))))
 }
 
 // With too little room: refusal 6, the number of findings, and nothing changed.
-fn refuses(s: Sheet, found: usize, room: usize) -> bool {
+fn refuses(f: &[u8], found: usize, room: usize) -> bool {
     let mut out = [UNTOUCHED; WORDS];
-    let c = checked_in(s, &mut out, room);
+    let c = checked_in(f, &mut out, room);
     (c.refused == 6) & ((c.count == found) & untouched(&out, 0))
 }
 
 // What is expected of the findings stands at `at`.
-fn same_findings(b: &[u8], at: usize, s: Sheet) -> bool {
+fn same_findings(b: &[u8], at: usize, f: &[u8]) -> bool {
     let found = replay_vectors::size(replay_vectors::u32_at(b, at));
     let n = words_of(found);
     if n == 0 {
-        return lists(b, at, s, found, 0) & lists(b, at, s, found, WORDS);
+        return lists(b, at, f, found, 0) & lists(b, at, f, found, WORDS);
     }
     if n > WORDS {
-        return refuses(s, found, WORDS);
+        return refuses(f, found, WORDS);
     }
-    let exact = lists(b, at, s, found, n) & lists(b, at, s, found, WORDS);
-    exact & refuses(s, found, n - 1)
+    let exact = lists(b, at, f, found, n) & lists(b, at, f, found, WORDS);
+    exact & refuses(f, found, n - 1)
 }
 
-// What is expected of the fill stands at `at`, at the end.
-fn same_fill(b: &[u8], at: usize, s: Sheet) -> bool {
-    let filled = fill_thousand::fill_per_thousand(s);
+// What is expected of the fill of the load file that the body begins with stands at `at`, at the end.
+fn same_fill(b: &[u8], at: usize) -> bool {
+    let n = replay_vectors::size(replay_vectors::u32_at(b, 0));
+    let filled = fill_thousand::fill_of(replay_vectors::part(b, 4, n));
     let refused = replay_vectors::u32_at(b, at) == filled.refused;
     let thousandth = replay_vectors::u64_at(b, replay_vectors::past(at, 4)) == filled.fill;
     let ends = replay_vectors::past(at, 12) == b.len();
@@ -105,10 +106,12 @@ fn past_words(at: usize, n: usize) -> usize {
 fn one(b: &[u8]) -> bool {
     let reading = replay_vectors::sheet_at(b, 0);
     let s = reading.sheet;
+    let long = replay_vectors::size(replay_vectors::u32_at(b, 0));
+    let f = replay_sample::part(b, replay_vectors::past(0, 4), long);
     let at = replay_vectors::after_bytes(b, 0);
     let listed = replay_vectors::size(replay_vectors::u32_at(b, replay_vectors::past(at, 4)));
     let after = past_words(replay_vectors::past(at, 8), words_of(listed));
-    (reading.refused == 0) & (same_findings(b, at, s) & same_fill(b, after, s))
+    (reading.refused == 0) & (same_findings(b, at, f) & same_fill(b, after))
 }
 
 fn all(s: &[u8]) -> replay_vectors::Tally {

@@ -6,6 +6,11 @@ pub(crate) const MOST: usize = 1024;
 // What stands in lent numbers that no call is to change.
 pub(crate) const UNTOUCHED: u32 = 2779096485;
 
+// The load file that a case begins with.
+pub(crate) fn file_in(b: &[u8]) -> &[u8] {
+    replay_vectors::part(b, 4, replay_vectors::size(replay_vectors::u32_at(b, 0)))
+}
+
 // Fills the list with the numbers from `from` on.
 pub(crate) fn read_words(b: &[u8], from: usize, words: &mut [u32]) {
     let mut at = from;

@@ -1,5 +1,5 @@
 // Replays the samples of load files: the refusal that each gets, and that writing what was read gives the same bytes.
-use file_laws::Written;
+use file_write::Written;
 use sheet::Sheet;
 
 // What stands in lent bytes that no call is to change.
@@ -33,9 +33,9 @@ fn untouched(a: &[u8]) -> bool {
 // Writes the sheet with room for n bytes.
 fn write_in(s: Sheet, out: &mut [u8], n: usize) -> Written {
     if n <= out.len() {
-        return file_laws::write_sheet(s, &mut out[..n]);
+        return file_write::write_sheet(s, &mut out[..n]);
     }
-    file_laws::write_sheet(s, out)
+    file_write::write_sheet(s, out)
 }
 
 // With one byte less than the file needs: refusal 6, the length needed, and nothing changed.
@@ -66,7 +66,7 @@ fn round_trip(s: Sheet, f: &[u8]) -> bool {
 fn one(b: &[u8]) -> bool {
     let n = replay_vectors::size(replay_vectors::u32_at(b, 0));
     let f = replay_vectors::part(b, 4, n);
-    let r = file_laws::read_sheet(f);
+    let r = file_read::read_sheet(f);
     let expected = replay_vectors::u32_at(b, replay_vectors::past(4, n));
     if r.refused != expected {
         return false;

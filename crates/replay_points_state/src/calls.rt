@@ -15,11 +15,11 @@ struct Progress {
 
 // Whether the box placed last is this one.
 fn same_last(b: &[u8], at: usize, set: ExtremePointSet, id: u32, instance: u32) -> bool {
-    let n = point_state::placed_count(set);
+    let n = point_reads::placed_count(set);
     if n.count == 0 {
         return false;
     }
-    let found = point_state::placed_box(set, n.count - 1);
+    let found = point_reads::placed_box(set, n.count - 1);
     let last = found.placed;
     let position = last.position;
     let who = (last.id == id) & (last.instance == instance);
@@ -32,7 +32,7 @@ fn same_answer(b: &[u8], at: usize, tried: Tried, id: u32, instance: u32) -> boo
     let v = tried.at;
     let took = replay_vectors::u32_at(b, at);
     let place = replay_vectors::past(at, 4);
-    let live = point_state::len(next);
+    let live = point_reads::len(next);
     let count = replay_vectors::size(replay_vectors::u32_at(b, replay_vectors::past(at, 28)))
         == live.count;
     let there = replay_vectors::same_three(b, place, v);
@@ -84,11 +84,11 @@ fn run(b: &[u8], s: Sheet, at: usize) -> Progress {
 
 // What is expected after all calls, from `at` on.
 fn same_end(b: &[u8], at: usize, set: ExtremePointSet) -> bool {
-    let boxes = point_state::placed_count(set);
-    let volume = point_state::total_volume(set);
-    let mass = point_state::total_mass(set);
-    let live = point_state::len(set);
-    let empty = point_state::is_empty(set);
+    let boxes = point_reads::placed_count(set);
+    let volume = point_totals::total_volume(set);
+    let mass = point_totals::total_mass(set);
+    let live = point_reads::len(set);
+    let empty = point_reads::is_empty(set);
     let n = replay_vectors::size(replay_vectors::u32_at(b, replay_vectors::past(at, 20)));
     let list = replay_vectors::past(at, 24);
     let fair = (boxes.refused == 0) & ((volume.refused == 0) & (mass.refused == 0));

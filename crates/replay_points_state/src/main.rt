@@ -21,8 +21,9 @@ fn box_at(b: &[u8], at: usize) -> PlacedBox {
 
 fn same_overlap(b: &[u8]) -> bool {
     let expected = replay_vectors::u32_at(b, 96);
-    let got = point_state::overlaps(box_at(b, 0), box_at(b, 48));
-    (b.len() == 100) & ((expected < 2) & ((expected == 1) == got))
+    let got = point_overlap::overlaps(box_at(b, 0), box_at(b, 48));
+    let right = (got.refused == 0) & ((expected == 1) == got.holds);
+    (b.len() == 100) & ((expected < 2) & right)
 }
 
 fn one(tag: u32, b: &[u8]) -> bool {

@@ -7,7 +7,8 @@ use lib.ListN.{length, getD}
 use Rattle.domain.specs.Bounds.{mostKinds, mostLines}
 use Rattle.lists.specs.Below.{anyBelow}
 use Rattle.plan_sheet.specs.declared.Packed.{Packed}
-use Rattle.replay_vectors.specs.Sample.{beyond, wordAt, longAt, sameFloat}
+use Rattle.file_bytes.specs.Bytes.{u32At, u64At}
+use Rattle.replay_vectors.specs.Sample.{beyond, sameFloat}
 use Rattle.replay_results.specs.declared.Seen.{Seen}
 
 -- before the first
@@ -25,14 +26,14 @@ idAt ids i = cond (ltb i mostKinds) (getD ids i 0) 0
 
 -- one id more
 unfoldable pub idTurn : List ℕ → List ℕ → Seen → Seen
-idTurn b ids s = record { same = s .same && eqb (wordAt b (s .at)) (idAt ids (s .next)); at = beyond (s .at) 4; next = beyond (s .next) 1 }
+idTurn b ids s = record { same = s .same && eqb (u32At b (s .at)) (idAt ids (s .next)); at = beyond (s .at) 4; next = beyond (s .next) 1 }
 
 -- whether the number of 32 or 64 bits at `at` is word i
 unfoldable pub sameNumber : List ℕ → ℕ → List ℕ → ℕ → Bool
-sameNumber b at words i = eqb (wordAt b at) (getD words i 0)
+sameNumber b at words i = eqb (u32At b at) (getD words i 0)
 
 unfoldable pub sameWord : List ℕ → ℕ → List ℕ → ℕ → Bool
-sameWord b at words i = eqb (longAt b at) (getD words i 0)
+sameWord b at words i = eqb (u64At b at) (getD words i 0)
 
 -- whether id, instance and orientation at `at` are the words from k on
 unfoldable pub sameName : List ℕ → ℕ → List ℕ → ℕ → Bool
@@ -61,7 +62,7 @@ wordsOf placed = cond (ltb mostLines placed) 0 (placed * 6)
 
 -- how many boxes the result at `at` places
 abbrev pub placedAt : List ℕ → ℕ → ℕ
-placedAt b at = wordAt b (beyond at 12)
+placedAt b at = u32At b (beyond at 12)
 
 abbrev pub lessOne : ℕ → ℕ
 lessOne n = cond (eqb n 0) 0 (n - 1)
@@ -77,14 +78,14 @@ idsSeen b at p = turns (idTurn b (p .ids)) (none (beyond at 4)) (p .unplaced)
 unfoldable pub sameLists : List ℕ → ℕ → Packed → List ℕ → Bool
 sameLists b at p words =
     linesSeen b at p words .same
-    && (eqb (wordAt b (linesSeen b at p words .at)) (p .unplaced)
+    && (eqb (u32At b (linesSeen b at p words .at)) (p .unplaced)
     && (idsSeen b (linesSeen b at p words .at) p .same && eqb (idsSeen b (linesSeen b at p words .at) p .at) (length b)))
 
 -- whether the result at `at` was handed out, and the words past it are as they were
 unfoldable pub isResult : List ℕ → ℕ → Packed → List ℕ → Bool
 isResult b at p words =
     eqb (p .refused) 0
-    && (eqb (wordAt b at) (p .considered)
+    && (eqb (u32At b at) (p .considered)
     && (sameFloat b (beyond at 4) (p .utilization)
     && ((eqb (placedAt b at) (p .placed) && eqb (p .needed) (p .placed))
     && (sameLists b at p words && not (anyBelow (changed (wordsOf (p .placed)) words) (length words))))))

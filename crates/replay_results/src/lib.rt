@@ -3,7 +3,8 @@ ghost use mathlib.Core.Path.{_≡_};
 ghost use mathlib.Core.Bool.{not};
 ghost use lib.ListN.{length, getD};
 ghost use Rattle.lists.specs.Below.{anyBelow};
-ghost use Rattle.replay_results.specs.Results.{none, turns, idAt, idTurn, sameNumber, sameWord, sameName, sameSpot, sameLine, lineTurn, changed, placedAt, wordsOf, lessOne, sameLists, isResult, isRefused, isAnswer};
+ghost use Rattle.replay_results.specs.Results.{none, turns, idAt, idTurn, sameNumber, sameWord, sameName, sameSpot, sameLine, lineTurn, changed};
+ghost use Rattle.replay_results.specs.Results.{placedAt, wordsOf, lessOne, sameLists, isResult, isRefused, isAnswer};
 use plan_sheet::Packed;
 
 // Words that a replay lends: 256 lines of six, and some past them.

@@ -4,12 +4,13 @@ use mathlib.Core.Bool.{Bool, cond, not, _||_}
 use mathlib.Core.List.{List}
 use lib.Dec.{eqb}
 use Rattle.replay_vectors.specs.declared.Tally.{Tally}
-pub use Rattle.replay_sample.specs.Sample.{beyond, longAt, partOf, floatAt, threeAt, sameThree}
-unfoldable pub use Rattle.replay_sample.specs.Sample.{wordAt, sameFloat}
+use Rattle.file_bytes.specs.Bytes.{u32At}
+pub use Rattle.replay_sample.specs.Sample.{beyond, partOf, threeAt, sameThree}
+unfoldable pub use Rattle.replay_sample.specs.Sample.{sameFloat}
 
 -- the size of the body of the case at `at`
 abbrev pub sizeAt : List ℕ → ℕ → ℕ
-sizeAt s at = wordAt s (beyond at 4)
+sizeAt s at = u32At s (beyond at 4)
 
 -- the tally after one more case, which is as expected or differs
 abbrev pub tallied : List ℕ → Tally → Bool → Tally

@@ -6,8 +6,9 @@ ghost use Prim.Native.Nat.{_%_};
 ghost use lib.ListN.{length, replicate};
 ghost use Rattle.domain.specs.Bounds.{mostKinds};
 ghost use Rattle.sheet.specs.Sheets.{kindAt};
-ghost use Rattle.file_laws.specs.Reading.{readOf};
-ghost use Rattle.replay_sample.specs.Sample.{beyond, wordAt, partOf};
+ghost use Rattle.file_bytes.specs.Bytes.{u32At};
+ghost use Rattle.file_read.specs.Reading.{readOf};
+ghost use Rattle.replay_sample.specs.Sample.{beyond, partOf};
 ghost use Rattle.replay_vectors.specs.Sample.{sizeAt, tallied};
 use measures::Kind;
 pub use replay_sample::after_bytes;
@@ -31,10 +32,10 @@ pub struct Tally {
 }
 
 // The sheet in the counted bytes at `at`.
-pub fn sheet_at(s: &[u8], at: usize) -> file_laws::Reading
-    ensures { λ r. ⌜ r ≡ readOf (partOf (now (s .entry)) (beyond at 4) (wordAt (now (s .entry)) at)) ⌝ }
+pub fn sheet_at(s: &[u8], at: usize) -> file_read::Reading
+    ensures { λ r. ⌜ r ≡ readOf (partOf (now (s .entry)) (beyond at 4) (u32At (now (s .entry)) at)) ⌝ }
 {
-    file_laws::read_sheet(part(s, past(at, 4), size(u32_at(s, at))))
+    file_read::read_sheet(part(s, past(at, 4), size(u32_at(s, at))))
 }
 
 // Kind k of a sheet. Past the places for kinds it begins again at the first.
@@ -66,7 +67,7 @@ pub fn start() -> Tally
 }
 
 pub fn tag(s: &[u8], t: Tally) -> u32
-    ensures { λ r. ⌜ r ≡ wordAt (now (s .entry)) (t .at) ⌝ }
+    ensures { λ r. ⌜ r ≡ u32At (now (s .entry)) (t .at) ⌝ }
 {
     u32_at(s, t.at)
 }

@@ -2,3 +2,4 @@
 pub mod Sheets
 pub mod Accepted
 pub mod Ids
+pub mod Columns

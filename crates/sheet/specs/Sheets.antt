@@ -1,4 +1,4 @@
--- What a sheet holds, and the refusal that it gets: 01's table from 2 on, in 01's order.
+-- What a sheet holds, and the refusal that it gets, from 2 on and in the stated order. RULES: Refusals
 use Prim.Native.Nat.{ℕ, zero, suc}
 use mathlib.Core.Bool.{Bool, not, _&&_, _||_, cond}
 use mathlib.Core.List.{List, [], _∷_}
@@ -52,11 +52,11 @@ lineAt s i = getD (s .lines) i noLine
 abbrev pub unplacedAt : Sheet → ℕ → ℕ
 unplacedAt s i = getD (s .unplaced) i 0
 
--- ---- 01: "2 for kinds, lines, unplaced"
+-- ---- 2: more kinds, lines or unplaced ids than there can be
 abbrev pub overCount : Counts → Bool
 overCount m = ltb mostKinds (m .kinds) || (ltb mostLines (m .lines) || ltb mostUnplaced (m .unplaced))
 
--- ---- 01: "then kind by kind 4, 3, 5"
+-- ---- kind by kind: 4, 3, 5
 -- the id is one of the first n, of a list for as many ids as there may be kinds
 unfoldable pub among : List ℕ → ℕ → ℕ → Bool
 among ids id n = leb n mostKinds && anyBelow (isAt ids id) n
@@ -69,11 +69,11 @@ idsBelow kinds n = table 0 mostKinds (λ k. getD kinds k noKind .id) n
 unfoldable pub sameId : List Kind → ℕ → ℕ → Bool
 sameId kinds k j = eqb (getD kinds j noKind .id) (getD kinds k noKind .id)
 
--- 01, number 5: "an id repeats an earlier kind's"
+-- 5: an id that an earlier kind has
 unfoldable pub kindFaultIn : List Kind → ℕ → ℕ
 kindFaultIn kinds k = kindFault (getD kinds k noKind) (anyBelow (sameId kinds k) k)
 
--- ---- 01: "2 for the total"
+-- ---- 2: more boxes than there can be
 unfoldable pub quantityOf : List Kind → ℕ → ℕ
 quantityOf kinds k = getD kinds k noKind .quantity
 
@@ -81,7 +81,7 @@ quantityOf kinds k = getD kinds k noKind .quantity
 unfoldable pub boxesIn : List Kind → ℕ → ℕ
 boxesIn kinds m = cond (ltb mostKinds m) 0 (sumBelow (quantityOf kinds) m)
 
--- ---- 01: "3 line by line"
+-- ---- line by line: 3 for a position out of its range
 unfoldable pub lineFault : Line → ℕ
 lineFault l = when (not (isPosition (x (l .at))) || (not (isPosition (y (l .at))) || not (isPosition (z (l .at))))) 3
 
@@ -89,7 +89,7 @@ unfoldable pub lineFaultIn : List Line → ℕ → ℕ
 unfolding lineFault
 lineFaultIn lines i = lineFault (getD lines i noLine)
 
--- ---- 01: "2 for kinds, lines, unplaced ..; 3 for the container block in field order; then kind by kind 4, 3, 5; 2 for the total; 3 line by line"
+-- ---- the counts, the container, kind by kind, the total, line by line: the first that gives a number
 unfoldable pub sheetRefusal : Sheet → ℕ
 unfolding orElse
 sheetRefusal s =

@@ -6,7 +6,8 @@ ghost use lib.ListN.{getD};
 ghost use Rattle.domain.specs.Bounds.{mostKinds, mostLines};
 ghost use Rattle.lists.specs.Below.{sumBelow};
 ghost use Rattle.domain.specs.Refusals.{firstBelow};
-ghost use Rattle.sheet.specs.Sheets.{blankKind, blankLine, emptySheet, overCount, among, idsBelow, quantityOf, boxesIn, kindFaultIn, lineFault, lineFaultIn, sheetRefusal};
+ghost use Rattle.sheet.specs.Sheets.{blankKind, blankLine, emptySheet, among, idsBelow};
+ghost use Rattle.sheet.specs.Sheets.{overCount, quantityOf, boxesIn, kindFaultIn, lineFault, lineFaultIn, sheetRefusal};
 use measures::Container;
 use measures::Kind;
 

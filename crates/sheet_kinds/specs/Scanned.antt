@@ -53,7 +53,14 @@ step-known ks n p room small k =
     (rw (lt-leb mostKinds n room)
     (rw (k .ids-are, k .total-is, k .fault-is, k .place-is)
     (rw (repeats-same ks n n (omega arith) (omega arith))
-    (record { ids-are = refl; seen-is = omega arith; total-is = rw (lt-ltb (sumBelow (quantityOf ks) n) 1000000000000 (omega arith)); fault-is = refl; place-is = rw add-one }))))
+    (record {
+      ids-are = refl;
+      seen-is = omega arith;
+      total-is = rw
+          (lt-ltb (sumBelow (quantityOf ks) n) 1000000000000 (omega arith));
+      fault-is = refl;
+      place-is = rw add-one;
+    }))))
 
 known : (ks : List Kind) (n : ℕ) → n ≤ mostKinds → Small ks n → Known ks n (passedBelow ks n)
 unfolding passedBelow

@@ -16,8 +16,8 @@ unfoldable pub placeBelow : (ℕ → ℕ) → ℕ → ℕ
 placeBelow g zero = 0
 placeBelow g (suc n) = cond (eqb (firstBelow g n) 0) (cond (eqb (g n) 0) (suc n) n) (placeBelow g n)
 
--- 01: "a call over a lent slice of kind records gives total quantity and the first faulty kind. Faulty means 4, 3 or 5 would be given at it;
--- that number is shown, or that there is none. The total is over all kinds. Only over 64 kinds is refused, by 2."
+-- RULES: Refusals. The total quantity of all the kinds, and the place and the number (4, 3 or 5) of the first faulty one; its place is past
+-- the last where there is none. Too many kinds are refused by 2, and nothing is said of them.
 unfoldable pub surveyOf : List Kind → Surveyed
 unfolding placeBelow
 surveyOf ks =

@@ -1,2 +1,3 @@
--- How the programs print a float.
+-- How the programs print a float, and what digits mean.
+pub mod Digits
 pub mod Hex

@@ -5,9 +5,9 @@ use mathlib.Core.List.{List}
 use Prim.Native.Nat.{ℕ}
 use lib.Dec.{eqb}
 use Rattle.fill_thousand.specs.Fill.{fillOf}
-use Rattle.file_laws.specs.Reading.{readOf}
+use Rattle.file_read.specs.Reading.{readOf}
 use Rattle.file_read.specs.Reading.{refusalOf}
-use Rattle.fill_file.specs.FileFill.{fileFill}
+use Rattle.fill_thousand.specs.FileFill.{fileFill}
 use Rattle.waikurpeho.specs.Answer.{answerOf}
 
 -- the count is 0: the fill can pass 32 bits, so it goes into a lent word of its own

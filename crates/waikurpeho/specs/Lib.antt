@@ -4,3 +4,5 @@ pub mod Check
 pub mod Plan
 pub mod Few
 pub mod Fill
+pub mod Room
+pub mod Laid

@@ -1,4 +1,5 @@
 -- The plan calls: a load file is read as an order, planned, and the planned sheet written as form 1.
+use mathlib.Core.Path.{_≡_}
 use mathlib.Core.Bool.{Bool, true, false, cond}
 use mathlib.Core.List.{List}
 use Prim.Native.Nat.{ℕ}
@@ -9,8 +10,8 @@ use Rattle.sheet.specs.declared.Sheet.{Sheet}
 use Rattle.plan_sheet.specs.declared.Plan.{Plan}
 use Rattle.plan_sheet.specs.declared.PlanSheet.{PlanSheet}
 use Rattle.plan_sheet.specs.Planned.{sheetFrom}
-use Rattle.file_laws.specs.Reading.{readOf}
-use Rattle.file_laws.specs.Writing.{writtenOf, bytesAfter}
+use Rattle.file_read.specs.Reading.{readOf}
+use Rattle.file_write.specs.Writing.{writtenOf, bytesAfter}
 use Rattle.waikurpeho.specs.Answer.{answerOf}
 
 -- the planned sheet's length, or the plan's refusal, or 6 and the length needed
@@ -32,7 +33,7 @@ planFigures order plan room old =
     old
 
 -- ---- the same of an order in a load file, which is refused whole as reading it is, for either placer
-abbrev Planner : Type 0
+abbrev pub Planner : Type 0
 Planner = Sheet → ℕ → Plan
 
 unfoldable pub orderAnswer : Planner → List ℕ → ℕ → ℕ → ℕ
@@ -47,3 +48,9 @@ orderBytes planOf file consider out =
 unfoldable pub orderFigures : Planner → List ℕ → ℕ → ℕ → List ℕ → List ℕ
 orderFigures planOf file consider room old =
     let order = readOf file .sheet in cond (eqb (readOf file .refused) 0) (planFigures order (planOf order consider) room old) old
+
+-- what a plan call answers, and what it leaves in the lent bytes and figures
+pub record Answers (planOf : Planner) (file : List ℕ) (consider : ℕ) (out old : List ℕ) (r : ℕ) (bytes figures : List ℕ) : Type 0 where
+  pub answer-is : r ≡ orderAnswer planOf file consider (length out)
+  pub bytes-are : bytes ≡ orderBytes planOf file consider out
+  pub figures-are : figures ≡ orderFigures planOf file consider (length out) old

@@ -6,11 +6,13 @@ ghost use lib.ListN.{length};
 ghost use Rattle.waikurpeho.specs.Answer.{answerOf};
 ghost use Rattle.waikurpeho.specs.Check.{checkAnswer, checkCells};
 ghost use Rattle.point_run.specs.Runs.{epPackingOf};
-ghost use Rattle.layer_run.specs.Fills.{layerFillOf};
-ghost use Rattle.waikurpeho.specs.Plan.{planAnswer, planBytes, planFigures, orderAnswer, orderBytes, orderFigures};
+ghost use Rattle.layer_plan.specs.Fills.{layerFillOf};
+ghost use Rattle.sheet.specs.Columns.{columns};
+ghost use Rattle.waikurpeho.specs.Plan.{Answers};
+ghost use Rattle.waikurpeho.specs.Laid.{WritesLaid};
 ghost use Rattle.waikurpeho.specs.Fill.{fillAnswer, fillAfter};
-use plan_sheet::Plan;
-use sheet::Sheet;
+use file_read::records;
+use plan_sheet::Told;
 
 // A refusal number and a count in one word.
 fn answer(refused: u32, count: usize) -> u64
@@ -23,33 +25,57 @@ fn answer(refused: u32, count: usize) -> u64
 // The findings on a load file, five words to a slot: how many there are, or 6 and the slots needed.
 #[no_mangle]
 pub extern "C" fn wk_check(sheet: &[u8], findings: &mut [u64]) -> u64
-    ensures { λ r. ⌜ (r ≡ checkAnswer (now (sheet .entry)) (now (findings .entry))) × (now (findings .exit) ≡ checkCells (now (sheet .entry)) (now (findings .entry))) ⌝ }
+    ensures { λ r. ⌜ (r ≡ checkAnswer (now (sheet .entry)) (now (findings .entry))) ×
+        (now (findings .exit) ≡ checkCells (now (sheet .entry)) (now (findings .entry))) ⌝ }
 {
-    let read = file_laws::read_sheet(sheet);
-    if read.refused != 0 {
-        return answer(read.refused, 0);
-    }
-    let s = read.sheet;
-    let c = check_packing::check_packing(s, findings);
+    let c = check_packing::check_packing(sheet, findings);
     answer(c.refused, c.count)
 }
 
-// A plan written as a load file: its length, or 6 and the length needed. The figures are the boxes considered and the
-// utilization's bits.
-fn write_plan(order: Sheet, plan: Plan, sheet: &mut [u8], figures: &mut [u64; 2]) -> u64
-    ensures { λ r. ⌜ (r ≡ planAnswer order plan (length (now (sheet .entry)))) × (now (sheet .exit) ≡ planBytes order plan (now (sheet .entry))) × (now (figures .exit) ≡ planFigures order plan (length (now (sheet .entry))) (now (figures .entry))) ⌝ }
+// A plan that stands in columns, written as a load file from its order's bytes: its length, or 6 and the length needed. The figures are the
+// boxes considered and the utilization's bits.
+fn write_laid(
+    order: &[u8],
+    told: Told,
+    ids: &[u32; domain::MOST_LINES],
+    instances: &[u32; domain::MOST_LINES],
+    turns: &[u32; domain::MOST_LINES],
+    xs: &[f64; domain::MOST_LINES],
+    ys: &[f64; domain::MOST_LINES],
+    zs: &[f64; domain::MOST_LINES],
+    sheet: &mut [u8],
+    figures: &mut [u64; 2],
+) -> u64
+    ensures { λ r. ⌜ WritesLaid (now (order .entry)) told
+        (columns (now (ids .entry)) (now (instances .entry)) (now (turns .entry)) (now (xs .entry)) (now (ys .entry)) (now (zs .entry)))
+        (now (sheet .entry)) (now (figures .entry)) r (now (sheet .exit)) (now (figures .exit)) ⌝ }
 {
-    let planned = plan_sheet::planned_sheet(order, plan);
-    if planned.refused != 0 {
-        return answer(planned.refused, 0);
+    if told.refused != 0 {
+        return answer(told.refused, 0);
     }
-    let s = planned.sheet;
-    let w = file_laws::write_sheet(s, sheet);
+    let sections = records::sections_of(order);
+    let many = sections.many;
+    let left = plan_unplaced::left_in(order, many.kinds, ids, instances, told.placed);
+    let names = left.ids;
+    let w = file_write::write_plan(
+        order,
+        many.kinds,
+        ids,
+        instances,
+        turns,
+        xs,
+        ys,
+        zs,
+        told.placed,
+        &names,
+        left.count,
+        sheet,
+    );
     if w.refused != 0 {
         return answer(w.refused, w.length);
     }
-    figures[0] = plan.considered;
-    figures[1] = floats::bits_of(plan.utilization);
+    figures[0] = told.considered;
+    figures[1] = floats::bits_of(told.utilization);
     answer(0, w.length)
 }
 
@@ -61,15 +87,37 @@ pub extern "C" fn wk_plan_points(
     sheet: &mut [u8],
     figures: &mut [u64; 2],
 ) -> u64
-    ensures { λ r. ⌜ (r ≡ orderAnswer epPackingOf (now (order .entry)) consider (length (now (sheet .entry)))) × (now (sheet .exit) ≡ orderBytes epPackingOf (now (order .entry)) consider (now (sheet .entry))) × (now (figures .exit) ≡ orderFigures epPackingOf (now (order .entry)) consider (length (now (sheet .entry))) (now (figures .entry))) ⌝ }
+    ensures { λ r. ⌜ Answers epPackingOf (now (order .entry)) consider (now (sheet .entry)) (now (figures .entry)) r (now (sheet .exit))
+        (now (figures .exit)) ⌝ }
 {
-    let read = file_laws::read_sheet(order);
-    if read.refused != 0 {
-        return answer(read.refused, 0);
-    }
-    let o = read.sheet;
-    let p = point_run::ep_packing(o, consider);
-    write_plan(o, p, sheet, figures)
+    let mut ids = [0u32; domain::MOST_LINES];
+    let mut instances = [0u32; domain::MOST_LINES];
+    let mut orientations = [0u32; domain::MOST_LINES];
+    let mut xs = [0.0; domain::MOST_LINES];
+    let mut ys = [0.0; domain::MOST_LINES];
+    let mut zs = [0.0; domain::MOST_LINES];
+    let told = point_run::lay_points(
+        order,
+        consider,
+        &mut ids,
+        &mut instances,
+        &mut orientations,
+        &mut xs,
+        &mut ys,
+        &mut zs,
+    );
+    write_laid(
+        order,
+        told,
+        &ids,
+        &instances,
+        &orientations,
+        &xs,
+        &ys,
+        &zs,
+        sheet,
+        figures,
+    )
 }
 
 // The plan of an order by layers.
@@ -80,15 +128,37 @@ pub extern "C" fn wk_plan_layers(
     sheet: &mut [u8],
     figures: &mut [u64; 2],
 ) -> u64
-    ensures { λ r. ⌜ (r ≡ orderAnswer layerFillOf (now (order .entry)) consider (length (now (sheet .entry)))) × (now (sheet .exit) ≡ orderBytes layerFillOf (now (order .entry)) consider (now (sheet .entry))) × (now (figures .exit) ≡ orderFigures layerFillOf (now (order .entry)) consider (length (now (sheet .entry))) (now (figures .entry))) ⌝ }
+    ensures { λ r. ⌜ Answers layerFillOf (now (order .entry)) consider (now (sheet .entry)) (now (figures .entry)) r (now (sheet .exit))
+        (now (figures .exit)) ⌝ }
 {
-    let read = file_laws::read_sheet(order);
-    if read.refused != 0 {
-        return answer(read.refused, 0);
-    }
-    let o = read.sheet;
-    let p = layer_run::layer_fill(o, consider);
-    write_plan(o, p, sheet, figures)
+    let mut ids = [0u32; domain::MOST_LINES];
+    let mut instances = [0u32; domain::MOST_LINES];
+    let mut turned = [0u32; domain::MOST_LINES];
+    let mut xs = [0.0; domain::MOST_LINES];
+    let mut ys = [0.0; domain::MOST_LINES];
+    let mut zs = [0.0; domain::MOST_LINES];
+    let laid = layer_plan::lay_layers(
+        order,
+        consider,
+        &mut ids,
+        &mut instances,
+        &mut turned,
+        &mut xs,
+        &mut ys,
+        &mut zs,
+    );
+    write_laid(
+        order,
+        laid,
+        &ids,
+        &instances,
+        &turned,
+        &xs,
+        &ys,
+        &zs,
+        sheet,
+        figures,
+    )
 }
 
 // The fill per thousand of a load file, stored in `fill_thousand`.
@@ -96,7 +166,7 @@ pub extern "C" fn wk_plan_layers(
 pub extern "C" fn wk_fill(sheet: &[u8], fill: &mut u64) -> u64
     ensures { λ r. ⌜ (r ≡ fillAnswer (now (sheet .entry))) × (now (fill .exit) ≡ fillAfter (now (sheet .entry)) (now (fill .entry))) ⌝ }
 {
-    let f = fill_file::fill_of(sheet);
+    let f = fill_thousand::fill_of(sheet);
     if f.refused != 0 {
         return answer(f.refused, 0);
     }

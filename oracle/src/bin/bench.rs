@@ -10,11 +10,11 @@ const MILLISECONDS: u64 = 300;
 /// The port's time on an input, in nanoseconds.
 #[cfg(feature = "port")]
 fn time_port(input: &Input) -> Option<f64> {
-    use oracle::load_file::encode;
+    use oracle::load_file::{encode, LONGEST};
     use oracle::port::{Library, Port};
-    use oracle::timing::{shortest, Engine};
+    use oracle::timing::{room_for_all, shortest, Engine};
     let file = encode(&input.sheet);
-    let (mut sheet, mut findings, mut figures) = (vec![0; 60_000], vec![0; 8_000], [0; 2]);
+    let (mut sheet, mut findings, mut figures) = (vec![0; LONGEST], vec![0; room_for_all(&input.sheet)], [0; 2]);
     Some(shortest(MILLISECONDS, || {
         let answer = match input.engine {
             Engine::Points => Library.plan_points(&file, u64::MAX, &mut sheet, &mut figures),

@@ -1,7 +1,7 @@
 //! Holds the port against the unchanged Rust, in one process: `compare SEED COUNT`.
 //!
 //! Each of COUNT inputs is put to all four calls; every answer, every refusal and every lent cell is
-//! compared. Without the feature `port` the other side is document 01's words.
+//! compared. Without the feature `port` the other side is the rules' words.
 
 use oracle::compare::{differences, question, reading, shown};
 use oracle::port::Port;
@@ -11,7 +11,7 @@ fn other_side() -> (&'static str, Box<dyn Port>) {
     #[cfg(feature = "port")]
     return ("the port", Box::new(oracle::port::Library));
     #[cfg(not(feature = "port"))]
-    return ("document 01's words", Box::new(oracle::port::Prose));
+    return ("the rules' words", Box::new(oracle::port::Prose));
 }
 
 fn main() {

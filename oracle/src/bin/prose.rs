@@ -1,4 +1,4 @@
-//! Holds document 01's words (`src/prose.rs`) against the unchanged Rust: `prose SEED COUNT`.
+//! Holds the rules' words (`src/prose.rs`) against the unchanged Rust: `prose SEED COUNT`.
 //!
 //! COUNT cases for each sort of question. It prints how many were compared, the first difference of
 //! each sort, and how often the rarer rules came up.

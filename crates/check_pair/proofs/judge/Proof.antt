@@ -1,7 +1,7 @@
 -- `check_pair::judge` meets its contract: each return is the definition's, and where no root was taken the distance is not below what is asked.
 use mathlib.Core.Path.{sym, _∙_}
 use borrow.Author.Needs.{needs}
-use Rattle.check_pair.proofs.Verdicts.{at-overlap, at-clear, at-close, at-apart}
+use Rattle.check_pair.proofs.Verdicts.{at-overlap, at-far, at-close, at-apart}
 use Rattle.check_pair.proofs.judge.Statement.{statement}
 use Rattle.check_pair.proofs.judge.Tie as tie
 
@@ -11,7 +11,7 @@ returns c = at-overlap _ _ _ (rw (c .before .before .gaps .ensures) at (sym (c .
 returns-2 : tie.Need-returns-2
 returns-2 c =
     let g = c .before .before .before .before .gaps .ensures in
-    at-clear _ _ _ (rw g at (sym (c .before .before .before .overlaps .ensures) ∙ c .before .before .if1 .left)) (rw g at (sym (c .before .clear .ensures) ∙ c .if2 .taken))
+    at-far _ _ _ (rw g at (sym (c .before .before .before .overlaps .ensures) ∙ c .before .before .if1 .left)) (rw g at (sym (c .before .far-enough .ensures) ∙ c .if2 .taken))
 
 returns-3 : tie.Need-returns-3
 returns-3 c =

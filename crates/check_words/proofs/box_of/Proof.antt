@@ -4,7 +4,20 @@ use Rattle.check_words.proofs.box_of.Statement.{statement}
 use Rattle.check_words.proofs.box_of.Tie as tie
 
 returns : tie.Need-returns
-returns c = cc
+returns c = rw (c .dimensions-for-orientation .ensures)
 
 pub box-of-spec : {M : Type 1} → statement M
-box-of-spec = tie.close (tie.spec (λ c κs. search needs) (λ c. search needs) (λ c. search needs) (λ c. search needs) (λ c. search needs) (λ c. search needs) (λ c. search needs) returns)
+box-of-spec =
+    tie.close
+    (tie.spec
+    (λ c κs. search needs)
+    (λ c. search needs)
+    (λ c. search needs)
+    (λ c. search needs)
+    (λ c. search needs)
+    (λ c. search needs)
+    (λ c. search needs)
+    (λ c. search needs)
+    (λ c. search needs)
+    (λ c. search needs)
+    returns)

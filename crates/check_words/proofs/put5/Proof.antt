@@ -5,7 +5,15 @@ use Rattle.check_words.proofs.put5.Statement.{statement}
 use Rattle.check_words.proofs.put5.Tie as tie
 
 returns : tie.Need-returns
-returns c = wrote-then (wrote-then (wrote-then (wrote-then (c .before .before .before .before .before .before .before .before .before .before .before .before .before .before .before .before .before .before .put .ensures) (c .before .before .before .before .before .before .before .before .before .before .before .before .before .before .put2 .ensures)) (c .before .before .before .before .before .before .before .before .before .before .put3 .ensures)) (c .before .before .before .before .before .before .put4 .ensures)) (c .before .before .put5 .ensures)
+returns c =
+    let e = c .before .before in
+    let d = e .before .before .before .before in
+    let b = d .before .before .before .before in
+    let a = b .before .before .before .before in
+    let z = a .before .before .before .before in
+    wrote-then (wrote-then (wrote-then (wrote-then (z .put .ensures) (a .put2 .ensures)) (b .put3 .ensures)) (d .put4 .ensures)) (e .put5 .ensures)
 
 pub put5-spec : {M : Type 1} → statement M
-put5-spec = tie.close (tie.spec (λ c κs. search needs) (λ c κs. search needs) (λ c κs. search needs) (λ c κs. search needs) (λ c κs. search needs) (λ c. search needs) returns)
+put5-spec =
+    tie.close
+    (tie.spec (λ c κs. search needs) (λ c κs. search needs) (λ c κs. search needs) (λ c κs. search needs) (λ c κs. search needs) (λ c. search needs) returns)

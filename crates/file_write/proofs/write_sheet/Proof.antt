@@ -10,7 +10,8 @@ use Rattle.sheet.specs.declared.Sheet.{Sheet}
 use Rattle.sheet.specs.Sheets.{sheetRefusal}
 use Rattle.sheet.specs.Accepted.{Few, Accepted, accepted}
 use Rattle.file_write.specs.Writing.{fileOf, fileLength, writtenOf, bytesAfter}
-use Rattle.file_write.specs.Stores.{Put, put-file}
+use Rattle.file_bytes.specs.Stores.{Put}
+use Rattle.file_write.specs.Stores.{put-file}
 use Rattle.file_write.specs.declared.Written.{Written}
 use borrow.Author.Needs.{needs}
 use Rattle.file_write.proofs.write_sheet.Statement.{statement}

@@ -1,4 +1,4 @@
--- `fill_thousand::answer` meets its contract, by the refusal and what its callees ensure.
+-- `layer_fill::answer` meets its contract, by the refusal and what its callees ensure.
 use mathlib.Core.Path.{sym, _∙_}
 use borrow.Author.Needs.{needs}
 use borrow.Author.Tests.{eq-eqb, ne-eqb}

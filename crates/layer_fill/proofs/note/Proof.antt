@@ -1,4 +1,4 @@
--- `fill_thousand::note` meets its contract, by the test that led to each return.
+-- `layer_fill::note` meets its contract, by the test that led to each return.
 use borrow.Author.Needs.{needs}
 use Rattle.layer_fill.specs.Fill.{took}
 use Rattle.layer_fill.proofs.note.Statement.{statement}

@@ -1,4 +1,4 @@
--- `fill_thousand::place_refusal` meets its contract, by what its callees ensure.
+-- `layer_fill::place_refusal` meets its contract, by what its callees ensure.
 use borrow.Author.Needs.{needs}
 use Rattle.layer_fill.specs.Fill.{placeRefusal}
 use Rattle.layer_fill.proofs.place_refusal.Statement.{statement}

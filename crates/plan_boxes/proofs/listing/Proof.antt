@@ -3,26 +3,31 @@ use Prim.Native.Nat.{_≤_, _<_, _-_, _+_}
 use mathlib.Core.Path.{_≡_, refl, sym, _∙_}
 use native.Mathlib.Omega.{arith}
 use native.Mathlib.Numerals.{add-one}
+use Rattle.lists.specs.Table.{table, filled}
 use Rattle.domain.specs.Bounds.{mostBoxes}
 use Rattle.sheet.specs.Sheets.{quantityOf}
 use Rattle.plan_boxes.specs.Turns.{turnOf, turn-early}
-use Rattle.plan_boxes.specs.Listing.{listed, listingOf, listed-length, at-most-all, quantity-read}
+use Rattle.plan_boxes.specs.Listing.{noInstance, listingOf, at-most-all, quantity-read}
 use Rattle.plan_boxes.proofs.listing.Statement.{statement}
 use Rattle.plan_boxes.proofs.listing.Tie as tie
 
 abbrev Inv-loop : tie.InvT-loop
-Inv-loop n kinds most boxes₀ u₀ t₀ boxes u t = (t ≤ most) × (boxes ≡ listed (turnOf kinds) t) × (u ≡ turnOf kinds t)
+Inv-loop n kinds most boxes₀ u₀ t₀ boxes u t = (t ≤ most) × (boxes ≡ table noInstance mostBoxes (turnOf kinds) t) × (u ≡ turnOf kinds t)
 
 abbrev μ-loop : tie.MeasureT-loop
 μ-loop n kinds most boxes₀ u₀ t₀ boxes u t = most - t
 
 loop-holds : tie.Need-loop-holds Inv-loop μ-loop
-unfolding turnOf listed
+unfolding turnOf filled
 loop-holds c = (omega arith, c .no-boxes .ensures, refl)
 
 -- a turn's place is in the store
 room : (c : tie.In-loop Inv-loop μ-loop) → c .before .loop .t < mostBoxes
-room c = let h = at-most-all (c .before .before .before .before .args .n) in let e = c .before .before .before .at-most-all .ensures in omega arith
+room c =
+    let m = c .before .before .before in
+    let h = at-most-all (m .before .args .n) in
+    let e = m .at-most-all .ensures in
+    omega arith
 
 mul-boxes : tie.Need-mul-boxes Inv-loop μ-loop
 mul-boxes c = let h = room c in record { fits = omega arith }
@@ -31,10 +36,10 @@ array-set-from-boxes : tie.Need-array-set-from-boxes Inv-loop μ-loop
 array-set-from-boxes c = room c
 
 mul-kind : tie.Need-mul-kind Inv-loop μ-loop
-mul-kind c = let h = c .in-store .ensures .1 in record { fits = omega arith }
+mul-kind c = let h = c .place-within .ensures .1 in record { fits = omega arith }
 
 array-copy-out-kind : tie.Need-array-copy-out-kind Inv-loop μ-loop
-array-copy-out-kind c = c .in-store .ensures .1
+array-copy-out-kind c = c .place-within .ensures .1
 
 next-turn-requires : tie.Need-next-turn-requires Inv-loop μ-loop
 next-turn-requires c κs =
@@ -45,17 +50,21 @@ next-turn-requires c κs =
     rw (l .inv .2) (omega arith)
 
 loop-again : tie.Need-loop-again Inv-loop μ-loop
-unfolding turnOf listed
+unfolding turnOf filled
 loop-again c =
     let l = c .before .before .before .before .before .loop in
     let a = c .before .before .before .before .before .before .before .before .args in
+    let long = c .before .before .before .before .before .before .before .before .good .0 .1 .0 .1 in
     let q : c .before .quantity-at .result ≡ quantityOf (a .t1) (l .u .kind) =
-    c .before .quantity-at .ensures ∙ rw (c .before .before .before .in-store .ensures .0) (quantity-read (a .t1) (l .u .kind) (c .before .before .before .before .before .before .before .before .good .0 .1 .0 .1)) in
+    c .before .quantity-at .ensures ∙ rw (c .before .before .before .place-within .ensures .0) (quantity-read (a .t1) (l .u .kind) long) in
     (omega arith, rw (add-one (l .t), l .inv .1, l .inv .2), c .next-turn .ensures ∙ rw (add-one (l .t), q, l .inv .2))
 
 returns : tie.Need-returns Inv-loop μ-loop
 unfolding listingOf
-returns c = let e : c .before .loop .t ≡ c .before .before .before .at-most-all .result = omega arith in c .before .loop .inv .1 ∙ rw (e, c .before .before .before .at-most-all .ensures)
+returns c =
+    let m = c .before .before .before in
+    let e : c .before .loop .t ≡ m .at-most-all .result = omega arith in
+    c .before .loop .inv .1 ∙ rw (e, m .at-most-all .ensures)
 
 pub listing-spec : {M : Type 1} → statement M
 listing-spec =

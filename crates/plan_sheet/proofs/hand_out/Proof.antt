@@ -18,7 +18,8 @@ returns c =
 put-lines-requires : tie.Need-put-lines-requires
 put-lines-requires c κs =
     let a = c .before .before .before .before .before .before .args in
-    let r : Room (a .plan .placed) (length (a .slots .now)) = room-of (a .plan .refused) _ (a .plan .unplaced) _ (sym (c .before .before .before .before .hand-refusal .ensures) ∙ c .before .before .before .if1 .left) in
+    let r : Room (a .plan .placed) (length (a .slots .now)) = room-of (a .plan .refused) _ (a .plan .unplaced) _
+    (sym (c .before .before .before .before .hand-refusal .ensures) ∙ c .before .before .before .if1 .left) in
     (r .lines, r .words)
 
 returns-2 : tie.Need-returns-2

@@ -10,7 +10,8 @@ use Rattle.plan_sheet.proofs.put_line.Tie as tie
 returns : tie.Need-returns
 returns c =
     let a = c .before .before .before .before .before .before .before .before .args in
-    six-sets (a .out .now) (a .at) (a .l .id) (a .l .instance) (a .l .orientation) (c .before .before .before .before .before .bits-of .result) (c .before .before .before .before .bits-of2 .result) (c .before .before .before .bits-of3 .result)
+    six-sets (a .out .now) (a .at) (a .l .id) (a .l .instance) (a .l .orientation) (c .before .before .before .before .before .bits-of .result)
+    (c .before .before .before .before .bits-of2 .result) (c .before .before .before .bits-of3 .result)
     ∙ rw (c .before .before .before .bits-of3 .ensures, c .before .before .before .before .bits-of2 .ensures, c .before .before .before .before .before .bits-of .ensures)
 
 pub put-line-spec : {M : Type 1} → statement M

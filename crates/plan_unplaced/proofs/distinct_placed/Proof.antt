@@ -20,8 +20,13 @@ abbrev μ-loop : tie.MeasureT-loop
 
 loop-holds : tie.Need-loop-holds Inv-loop μ-loop
 loop-holds c =
-    let a = c .before .args in
-    (omega arith, omega arith, rw (c .no-marks .ensures) (marked-none (a .ids .now) (a .instances .now) (a .id) (a .quantity) (omega arith)), sym (distinct-none (a .ids .now) (a .instances .now) (a .id) (a .quantity)))
+    let a = c .before .args in (
+      omega arith,
+      omega arith,
+      rw (c .no-marks .ensures) (marked-none (a .ids .now) (a .instances .now) (a .id) (a .quantity) (omega arith)),
+      sym
+          (distinct-none (a .ids .now) (a .instances .now) (a .id) (a .quantity)),
+    )
 
 -- a turn's line is one of the n
 turn : (c : tie.In-loop Inv-loop μ-loop) → c .before .loop .j < c .before .before .before .args .n

@@ -3,6 +3,7 @@ use Prim.Native.Nat.{_≤_, _-_}
 use mathlib.Core.Path.{_≡_, refl, _∙_}
 use native.Mathlib.Omega.{arith}
 use native.Mathlib.Numerals.{add-one}
+use Rattle.lists.specs.Table.{filled}
 use Rattle.plan_unplaced.specs.Left.{flagsOf, shortKind}
 use Rattle.plan_unplaced.proofs.flags_of.Statement.{statement}
 use Rattle.plan_unplaced.proofs.flags_of.Tie as tie
@@ -14,11 +15,11 @@ abbrev μ-loop : tie.MeasureT-loop
 μ-loop m ids instances n kinds flags₀ k₀ flags k = m - k
 
 loop-holds : tie.Need-loop-holds Inv-loop μ-loop
-unfolding flagsOf
+unfolding filled
 loop-holds c = (omega arith, refl)
 
 loop-again : tie.Need-loop-again Inv-loop μ-loop
-unfolding flagsOf shortKind
+unfolding filled shortKind
 loop-again c = (omega arith, rw (c .is-short .ensures, add-one, c .before .before .before .loop .inv .1))
 
 returns : tie.Need-returns Inv-loop μ-loop

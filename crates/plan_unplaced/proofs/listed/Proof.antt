@@ -20,7 +20,8 @@ loop-holds c = (omega arith, c .no-left .ensures)
 push-if-requires : tie.Need-push-if-requires Inv-loop μ-loop
 push-if-requires c κs =
     let l = c .before .before .loop in
-    let h : l .left .count ≤ l .k = rw (l .inv .1) (left-few (c .before .before .before .before .args .t1) (c .before .before .before .before .args .t3) (l .k)) in
+    let h : l .left .count ≤ l .k = rw (l .inv .1)
+    (left-few (c .before .before .before .before .args .t1) (c .before .before .before .before .args .t3) (l .k)) in
     omega arith
 
 loop-again : tie.Need-loop-again Inv-loop μ-loop

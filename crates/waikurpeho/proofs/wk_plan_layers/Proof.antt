@@ -1,28 +1,20 @@
--- `wk_plan_layers` meets its contract: the file's refusal, or the plan written.
-use mathlib.Core.Path.{_≡_, sym, _∙_}
+-- `waikurpeho::wk_plan_layers` meets its contract: what is written of the plan laid in the columns is the planned sheet.
+use mathlib.Core.Path.{refl}
+use native.Mathlib.Omega.{arith}
 use borrow.Author.Needs.{needs}
-use borrow.Author.Tests.{eq-eqb, ne-eqb}
-use Rattle.waikurpeho.specs.Plan.{orderAnswer, orderBytes, orderFigures}
+use Rattle.layer_plan.specs.Fills.{layerFillOf}
+use Rattle.waikurpeho.specs.Laid.{answers, layers-sound}
 use Rattle.waikurpeho.proofs.wk_plan_layers.Statement.{statement}
 use Rattle.waikurpeho.proofs.wk_plan_layers.Tie as tie
 
 returns : tie.Need-returns
-unfolding orderAnswer orderBytes orderFigures
 returns c =
-    let e = sym (c .before .before .before .read-sheet .ensures) in
-    let t = ne-eqb _ _ (c .before .if1 .taken) in
-    (c .answer .ensures ∙ rw (e, t), rw (e, t), rw (e, t))
-
-returns-2 : tie.Need-returns-2
-unfolding orderAnswer orderBytes orderFigures
-returns-2 c =
-    let w = c .before .before in
-    let p = w .before .before .before in
-    let l = p .before .before in
-    let e = sym (l .before .before .read-sheet .ensures) in
-    let t = eq-eqb _ _ (l .if1 .left) in
-    let q = p .layer-fill .ensures in
-    (w .write-plan .ensures .0 ∙ rw (e, t, q), w .write-plan .ensures .1 ∙ rw (e, t, q), w .write-plan .ensures .2 ∙ rw (e, t, q))
+    let a = c .before .before .before .before .before .before .before .before .before .before .before .before .before .before .before .before .before .before .before .before .args in
+    answers layerFillOf (a .order .now) (λ i. omega (arith, c .before .before .before .before .before .before .before .before .before .before .before .before .before .before .before .before .before .before .before .shared-slice-known .given i)) (a .consider)
+    (layers-sound (a .order .now) (a .consider)) _
+    (record { ids-long = refl; instances-long = refl; turns-long = refl; xs-long = refl; ys-long = refl; zs-long = refl })
+    _ _ _ _ _ _ _ (c .before .before .before .before .before .before .before .before .before .before .before .lay-layers .ensures)
+    (c .before .before .write-laid .ensures)
 
 pub wk-plan-layers-spec : {M : Type 1} → statement M
-wk-plan-layers-spec = tie.close (tie.spec (λ c κs. search needs) (λ c κs. search needs) returns (λ c κs. search needs) (λ c κs. search needs) (λ c. search needs) returns-2)
+wk-plan-layers-spec = tie.close (tie.spec (λ c κs. search needs) (λ c κs. search needs) (λ c. search needs) returns)

@@ -8,7 +8,34 @@ use Rattle.check_list.proofs.line.put_place.Tie as tie
 
 returns : tie.Need-returns
 unfolding placeWords
-returns c = (rw (← (c .before .before .before .before .before .before .before .before .before .before .before .before .before .before .before .before .before .allowed-orientations .ensures)) (rw (← (c .before .before .before .before .before .before .before .before .before .before .before .before .before .before .before .box-of .ensures)) (rw (← (c .before .before .before .before .before .before .before .before .before .before .before .before .before .before .before .before .before .before .before .before .before .pre .1)) (rw (← (c .before .before .before .before .before .before .before .before .before .before .before .before .before .before .inside .ensures)) (wrote-then (c .before .before .before .before .before .before .before .before .before .before .before .put-if .ensures .0 .within (omega (arith, c .before .before .before .before .before .before .before .before .before .before .before .before .before .before .before .before .before .before .before .before .before .pre .0))) (wrote-then (c .before .before .before .before .before .before .put-if2 .ensures .0 .within (omega (arith, c .before .before .before .before .before .before .before .before .before .before .before .put-if .ensures .1, c .before .before .before .before .before .before .before .before .before .before .before .before .before .before .before .before .before .before .before .before .before .pre .0))) (c .before .before .put-if3 .ensures .0 .within (omega (arith, c .before .before .before .before .before .before .put-if2 .ensures .1, c .before .before .before .before .before .before .before .before .before .before .before .put-if .ensures .1, c .before .before .before .before .before .before .before .before .before .before .before .before .before .before .before .before .before .before .before .before .before .pre .0)))))))), omega arith)
+returns c =
+    let p = c .before .before in
+    let q = p .before .before .before .before in
+    let r = q .before .before .before .before .before in
+    let i = r .before .before .before in
+    let o = i .before .before in
+    let s = o .before .before .before .before in
+    let g = p .put-if3 .ensures in
+    let h = q .put-if2 .ensures in
+    let k = r .put-if .ensures in
+    let a = s .pre .0 in (
+      rw (← (o .allowed-orientations .ensures), ← (s .pre .1), ← (i .inside .ensures))
+          (wrote-then (k .within (omega (arith, a))) (wrote-then (h .within (omega (arith, a, k .few))) (g .within (omega (arith, a, k .few, h .few))))),
+      omega (arith, g .few, h .few, k .few),
+    )
 
 pub put-place-spec : {M : Type 1} → statement M
-put-place-spec = tie.close (tie.spec (λ c. search needs) (λ c. search needs) (λ c κs. search needs) (λ c κs. search needs) (λ c κs. search needs) (λ c. search needs) (λ c κs. search needs) (λ c. search needs) (λ c κs. search needs) (λ c κs. search needs) (λ c. search needs) returns)
+put-place-spec =
+    tie.close
+    (tie.spec
+    (λ c. search needs)
+    (λ c. search needs)
+    (λ c κs. search needs)
+    (λ c κs. search needs)
+    (λ c. search needs)
+    (λ c κs. search needs)
+    (λ c. search needs)
+    (λ c κs. search needs)
+    (λ c κs. search needs)
+    (λ c. search needs)
+    returns)

@@ -7,7 +7,11 @@ use Rattle.check_list.proofs.rest.put_mass.Tie as tie
 
 returns : tie.Need-returns
 unfolding massWords
-returns c = (rw (← (c .before .before .before .before .bits-of .ensures), ← (c .before .before .before .bits-of2 .ensures)) (c .before .before .put-if .ensures .0 .within (omega arith)), omega arith)
+returns c =
+    let p = c .before .before in
+    let b = p .before in
+    let g = p .put-if .ensures in
+    (rw (← (b .before .bits-of .ensures), ← (b .bits-of2 .ensures)) (g .within (omega arith)), g .few)
 
 pub put-mass-spec : {M : Type 1} → statement M
 put-mass-spec = tie.close (tie.spec (λ c κs. search needs) (λ c κs. search needs) (λ c κs. search needs) (λ c. search needs) returns)

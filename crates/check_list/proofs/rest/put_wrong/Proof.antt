@@ -1,34 +1,80 @@
 -- `rest::put_wrong` meets its contract: after i turns the findings of the first i unplaced ids stand.
-use mathlib.Core.Path.{_≡_}
+use mathlib.Core.Path.{_≡_, refl, _∙_}
 use Prim.Native.Nat.{_+_, _*_, _≤_, _-_}
-use Rattle.check_words.specs.Words.{allBelow}
+use lib.ListN.{length}
+use Rattle.lists.specs.Below.{allBelow}
 use Rattle.check_words.specs.Wrote.{Wrote}
-use Rattle.check_list.specs.Runs.{wrongIn}
 use Rattle.check_words.specs.Writes.{wrote-none, wrote-more, wrote-length}
+use Rattle.check_list.specs.Finding.{wrongWords}
+use Rattle.check_list.specs.View.{View, wrongFound}
+use Rattle.check_list.specs.Held.{LeftHeld}
+use Rattle.check_list.proofs.Found.{wrong-found}
 use native.Mathlib.Omega.{arith}
 use borrow.Author.Needs.{needs}
 use Rattle.check_list.proofs.rest.put_wrong.Statement.{statement}
 use Rattle.check_list.proofs.rest.put_wrong.Tie as tie
 
 abbrev Inv-loop : tie.InvT-loop
-Inv-loop out₀ at listed short m unplaced u p₀ i₀ out p i = (i ≤ u) × (p ≤ at + 5 * i) × Wrote out₀ at (allBelow (wrongIn listed short m unplaced) i) p out
+Inv-loop out₀ at ids short m left listed u p₀ i₀ out p i =
+    (i ≤ u) × (p ≤ at + 5 * i) × (length out ≡ length out₀)
+    × ((v : View) → LeftHeld m u ids short left listed v → Wrote out₀ at (allBelow (wrongFound v) i) p out)
 
 abbrev μ-loop : tie.MeasureT-loop
-μ-loop out₀ at listed short m unplaced u p₀ i₀ out p i = u - i
+μ-loop out₀ at ids short m left listed u p₀ i₀ out p i = u - i
 
 loop-holds : tie.Need-loop-holds Inv-loop μ-loop
 unfolding allBelow
-loop-holds c = (omega arith, omega arith, wrote-none _ _)
+loop-holds c = (omega arith, omega arith, refl, λ v h. wrote-none _ _)
 
 loop-again : tie.Need-loop-again Inv-loop μ-loop
-unfolding wrongIn
-loop-again c = (omega arith, omega arith, wrote-more _ _ (c .before .before .before .before .before .before .before .before .before .before .before .loop .inv .2) (rw (c .before .before .before .before .before .before .is-listed .ensures, c .before .before .before .before .before .before .before .within .ensures .0) at (c .before .before .put-wrongly .ensures .0)))
+unfolding wrongWords
+loop-again c =
+    let p = c .before .before in
+    let x = p .before in
+    let q = x .before .before in
+    let d = q .before .before .before in
+    let l = d .before .before .before .before in
+    let i = l .loop .inv in
+    let g = p .put-if .ensures in
+    let w = g .within (omega (arith, i .1, l .before .before .pre)) in (
+      omega arith,
+      omega (arith, g .few),
+      wrote-length w ∙ i .2,
+      λ v h.
+          wrote-more _ _ (i .3 v h)
+          (rw (wrong-found v _ _ _ _ _ _ h (l .loop .i) (omega arith)) at (rw (x .wide .ensures, q .is-listed .ensures, d .place-within .ensures .0) at w)),
+    )
 
 same-length : tie.Need-same-length Inv-loop μ-loop
-same-length c = wrote-length (c .before .loop .inv .2)
+same-length c = c .before .loop .inv .2
 
 returns : tie.Need-returns Inv-loop μ-loop
-returns c = let e : c .before .loop .i ≡ c .before .before .before .args .u = omega arith in (rw e at (c .before .loop .inv .2), omega arith)
+returns c =
+    let l = c .before in
+    let i = l .loop .inv in
+    let e : l .loop .i ≡ l .before .before .args .u = omega arith in
+    record { as-long = i .2; few = rw e at (i .1); words = λ v h. rw e at (i .3 v h) }
 
 pub put-wrong-spec : {M : Type 1} → statement M
-put-wrong-spec = tie.close (tie.spec Inv-loop μ-loop loop-holds (λ c. omega arith) (λ c. omega arith) (λ c. omega arith) (λ c. omega arith) (λ c κs. search needs) (λ c κs. omega arith) (λ c. omega arith) (λ c. omega arith) (λ c. omega arith) (λ c κs. omega arith) (λ c. omega arith) (λ c. omega arith) loop-again same-length returns)
+put-wrong-spec =
+    tie.close
+    (tie.spec
+    Inv-loop
+    μ-loop
+    loop-holds
+    (λ c. omega arith)
+    (λ c. omega arith)
+    (λ c. omega arith)
+    (λ c. omega arith)
+    (λ c κs. search needs)
+    (λ c. omega arith)
+    (λ c. omega arith)
+    (λ c. omega arith)
+    (λ c κs. omega arith)
+    (λ c κs. search needs)
+    (λ c κs. search needs)
+    (λ c. omega arith)
+    (λ c. omega arith)
+    loop-again
+    same-length
+    returns)

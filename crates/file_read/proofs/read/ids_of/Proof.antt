@@ -5,6 +5,7 @@ use native.Mathlib.Omega.{arith}
 use native.Mathlib.Numerals.{add-one}
 use Rattle.lists.specs.Table.{filled, table}
 use Rattle.file_read.specs.Reading.{idsOf}
+use borrow.Author.Needs.{needs}
 use Rattle.file_read.proofs.read.ids_of.Statement.{statement}
 use Rattle.file_read.proofs.read.ids_of.Tie as tie
 
@@ -17,9 +18,6 @@ abbrev μ-loop : tie.MeasureT-loop
 loop-holds : tie.Need-loop-holds Inv-loop μ-loop
 unfolding idsOf filled
 loop-holds c = (omega arith, refl)
-
-u32-at-requires : tie.Need-u32-at-requires Inv-loop μ-loop
-u32-at-requires c κs = omega arith
 
 loop-again : tie.Need-loop-again Inv-loop μ-loop
 unfolding idsOf filled
@@ -37,7 +35,7 @@ ids-of-spec =
     loop-holds
     (λ c. omega arith)
     (λ c. omega arith)
-    u32-at-requires
+    (λ c κs. search needs)
     (λ c. omega arith)
     (λ c. omega arith)
     (λ c. omega arith)

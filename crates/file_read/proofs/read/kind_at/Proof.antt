@@ -1,17 +1,25 @@
 -- `read::kind_at` meets its contract: each field where the record has it.
-use Rattle.file_read.specs.Reading.{kindFrom}
+use Rattle.file_read.specs.Reading.{kindOf, kindFrom}
+use Rattle.file_bytes.specs.Layout.{fieldsAt}
 use borrow.Author.Needs.{needs}
 use Rattle.file_read.proofs.read.kind_at.Statement.{statement}
 use Rattle.file_read.proofs.read.kind_at.Tie as tie
 
 returns : tie.Need-returns
-unfolding kindFrom
+unfolding kindFrom kindOf fieldsAt
 returns c = cc
 
 pub kind-at-spec : {M : Type 1} → statement M
 kind-at-spec =
     tie.close
     (tie.spec
+    (λ c. search needs)
+    (λ c κs. search needs)
+    (λ c. search needs)
+    (λ c κs. search needs)
+    (λ c. search needs)
+    (λ c κs. search needs)
+    (λ c. search needs)
     (λ c κs. search needs)
     (λ c. search needs)
     (λ c κs. search needs)
@@ -20,9 +28,7 @@ kind-at-spec =
     (λ c. search needs)
     (λ c κs. search needs)
     (λ c. search needs)
-    (λ c. search needs)
-    (λ c. search needs)
-    (λ c. search needs)
+    (λ c κs. search needs)
     (λ c. search needs)
     (λ c κs. search needs)
     returns)

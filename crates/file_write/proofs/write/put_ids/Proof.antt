@@ -4,9 +4,11 @@ use native.Mathlib.Omega.{arith}
 use native.Mathlib.Numerals.{add-one}
 use mathlib.Core.Path.{_≡_, refl, _∙_}
 use lib.ListN.{length}
+use borrow.Author.Needs.{needs}
 use Rattle.lists.specs.Below.{allBelow}
 use Rattle.file_write.specs.Writing.{idsOut}
-use Rattle.file_write.specs.Stores.{Put, then, put-none, put-length, ids-length}
+use Rattle.file_bytes.specs.Stores.{Put, put, then, put-none, put-length}
+use Rattle.file_write.specs.Stores.{ids-length}
 use Rattle.file_write.proofs.write.put_ids.Statement.{statement}
 use Rattle.file_write.proofs.write.put_ids.Tie as tie
 
@@ -20,14 +22,11 @@ loop-holds : tie.Need-loop-holds Inv-loop μ-loop
 unfolding idsOut allBelow
 loop-holds c = (omega arith, refl, put-none _ _)
 
-put-u32-requires : tie.Need-put-u32-requires Inv-loop μ-loop
-put-u32-requires c κs = omega arith
-
 loop-again : tie.Need-loop-again Inv-loop μ-loop
 unfolding idsOut allBelow
 loop-again c =
     let l = c .before .before .before .before .before in
-    let p = c .before .before .put-u32 .ensures in
+    let p = put 4 _ (c .before .before .put-u32 .ensures) (omega arith) in
     (omega arith, put-length p ∙ l .loop .inv .1, rw add-one (then (l .loop .inv .2) (ids-length (l .before .before .args .t3) (l .loop .i)) refl p))
 
 same-length : tie.Need-same-length Inv-loop μ-loop
@@ -47,7 +46,7 @@ put-ids-spec =
     (λ c. omega arith)
     (λ c. omega arith)
     (λ c. omega arith)
-    put-u32-requires
+    (λ c κs. search needs)
     (λ c. omega arith)
     (λ c. omega arith)
     loop-again

@@ -6,7 +6,8 @@ use mathlib.Core.Path.{_≡_, refl, _∙_}
 use lib.ListN.{length}
 use Rattle.lists.specs.Below.{allBelow}
 use Rattle.file_write.specs.Writing.{kindsOut}
-use Rattle.file_write.specs.Stores.{Put, then, put-none, put-length, kinds-length}
+use Rattle.file_bytes.specs.Stores.{Put, then, put-none, put-length}
+use Rattle.file_write.specs.Stores.{kinds-length}
 use Rattle.file_write.proofs.write.put_kinds.Statement.{statement}
 use Rattle.file_write.proofs.write.put_kinds.Tie as tie
 

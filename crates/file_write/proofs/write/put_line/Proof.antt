@@ -1,35 +1,52 @@
 -- `write::put_line` meets its contract: the fields one after the other.
+use mathlib.Core.Path.{refl}
 use native.Mathlib.Omega.{arith}
-use Rattle.file_write.specs.Writing.{lineOut}
-use Rattle.file_write.specs.Stores.{then, three-length, le4-length}
+use Rattle.file_bytes.specs.Bytes.{byte, half, word, float}
+use Rattle.file_bytes.specs.Layout.{fieldsOut, bytes-length}
+use Rattle.file_bytes.specs.Stores.{put, then, put-none}
+use Rattle.file_write.specs.Writing.{lineOut, lineNumbers}
 use borrow.Author.Needs.{needs}
 use Rattle.file_write.proofs.write.put_line.Statement.{statement}
 use Rattle.file_write.proofs.write.put_line.Tie as tie
 
 returns : tie.Need-returns
-unfolding lineOut
+unfolding lineOut lineNumbers fieldsOut
 returns c =
-    let t = c .before .before in
-    let s = t .before .before .before .before in
-    let r = s .before .before .before .before in
-    let q = r .before .before .before .before in
-    let p = q .before .before .before .before in
-    then (p .put-u32 .ensures) (le4-length _) (omega arith)
-    (then (q .put-u322 .ensures) (le4-length _) (omega arith)
-    (then (r .put-u323 .ensures) (le4-length _) (omega arith)
-    (then (s .put-u324 .ensures) (le4-length _) (omega arith) (t .put-three .ensures))))
+    let h = c .before .before in
+    let g = h .before .before .before .before in
+    let f = g .before .before .before .before in
+    let e = f .before .before .before .before in
+    let d = e .before .before .before .before in
+    let b = d .before .before .before .before in
+    let a = b .before .before .before .before in
+    then (put-none _ _) refl (omega arith)
+    (then (put word _ (a .put-u32 .ensures) (omega arith)) (bytes-length word _) (omega arith)
+    (then (put word _ (b .put-u322 .ensures) (omega arith)) (bytes-length word _) (omega arith)
+    (then (put word _ (d .put-u323 .ensures) (omega arith)) (bytes-length word _) (omega arith)
+    (then (put word _ (e .put-u324 .ensures) (omega arith)) (bytes-length word _) (omega arith)
+    (then (put float _ (f .put-f64 .ensures) (omega arith)) (bytes-length float _) (omega arith)
+    (then (put float _ (g .put-f642 .ensures) (omega arith)) (bytes-length float _) (omega arith)
+    (then (put float _ (h .put-f643 .ensures) (omega arith)) (bytes-length float _) refl (put-none _ _))))))))
 
 pub put-line-spec : {M : Type 1} → statement M
 put-line-spec =
     tie.close
     (tie.spec
-    (λ c κs. search needs)
     (λ c. search needs)
     (λ c κs. search needs)
     (λ c. search needs)
     (λ c κs. search needs)
     (λ c. search needs)
     (λ c κs. search needs)
+    (λ c. search needs)
+    (λ c κs. search needs)
+    (λ c. search needs)
+    (λ c. search needs)
+    (λ c κs. search needs)
+    (λ c. search needs)
+    (λ c. search needs)
+    (λ c κs. search needs)
+    (λ c. search needs)
     (λ c. search needs)
     (λ c κs. search needs)
     (λ c. search needs)

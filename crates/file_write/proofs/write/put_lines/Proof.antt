@@ -6,7 +6,8 @@ use mathlib.Core.Path.{_≡_, refl, _∙_}
 use lib.ListN.{length}
 use Rattle.lists.specs.Below.{allBelow}
 use Rattle.file_write.specs.Writing.{linesOut}
-use Rattle.file_write.specs.Stores.{Put, then, put-none, put-length, lines-length}
+use Rattle.file_bytes.specs.Stores.{Put, then, put-none, put-length}
+use Rattle.file_write.specs.Stores.{lines-length}
 use Rattle.file_write.proofs.write.put_lines.Statement.{statement}
 use Rattle.file_write.proofs.write.put_lines.Tie as tie
 

@@ -1,7 +1,8 @@
 -- `write::put_sheet` meets its contract: the sections one after the other.
 use native.Mathlib.Omega.{arith}
 use Rattle.file_write.specs.Writing.{fileOf}
-use Rattle.file_write.specs.Stores.{then, container-length, kinds-length, lines-length, ids-length}
+use Rattle.file_bytes.specs.Stores.{then}
+use Rattle.file_write.specs.Stores.{container-length, kinds-length, lines-length, ids-length}
 use borrow.Author.Needs.{needs}
 use Rattle.file_write.proofs.write.put_sheet.Statement.{statement}
 use Rattle.file_write.proofs.write.put_sheet.Tie as tie

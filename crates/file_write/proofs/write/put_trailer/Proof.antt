@@ -1,27 +1,33 @@
 -- `write::put_trailer` meets its contract: the four starts, the form and the last two bytes.
-use native.Mathlib.Omega.{arith}
 use mathlib.Core.Path.{refl}
-use Rattle.file_read.specs.Bytes.{le2}
-use Rattle.file_write.specs.Writing.{trailerOut}
-use Rattle.file_write.specs.Stores.{then, le4-length}
+use native.Mathlib.Omega.{arith}
+use Rattle.file_bytes.specs.Bytes.{byte, half, word, float}
+use Rattle.file_bytes.specs.Layout.{fieldsOut, bytes-length}
+use Rattle.file_bytes.specs.Stores.{put, then, put-none}
+use Rattle.file_write.specs.Writing.{trailerOut, trailerNumbers}
 use borrow.Author.Needs.{needs}
 use Rattle.file_write.proofs.write.put_trailer.Statement.{statement}
 use Rattle.file_write.proofs.write.put_trailer.Tie as tie
 
 returns : tie.Need-returns
-unfolding trailerOut le2
+unfolding trailerOut trailerNumbers fieldsOut
 returns c =
-    let z = c .before .before in
-    let y = z .before .before .before .before in
-    let d = y .before .before .before .before in
-    let u = d .before .before .before .before .before in
-    let b = u .before .before .before .before .before in
+    let h = c .before .before in
+    let g = h .before .before .before .before in
+    let f = g .before .before .before .before in
+    let e = f .before .before .before .before in
+    let d = e .before .before .before .before .before in
+    let b = d .before .before .before .before .before in
     let a = b .before .before .before .before .before in
-    then (rw (a .before .short .ensures) at (a .put-u32 .ensures)) (le4-length _) (omega arith)
-    (then (rw (b .before .short2 .ensures) at (b .put-u322 .ensures)) (le4-length _) (omega arith)
-    (then (rw (u .before .short3 .ensures) at (u .put-u323 .ensures)) (le4-length _) (omega arith)
-    (then (rw (d .before .short4 .ensures) at (d .put-u324 .ensures)) (le4-length _) (omega arith)
-    (then (y .put-u16 .ensures) refl (omega arith) (z .put-rule .ensures)))))
+    let r = a .before .before .before .before .before .before .before .pre .1 in
+    then (put-none _ _) refl (omega (arith, r))
+    (then (put word _ (rw (a .before .short .ensures) at (a .put-u32 .ensures)) (omega (arith, r))) (bytes-length word _) (omega (arith, r))
+    (then (put word _ (rw (b .before .short2 .ensures) at (b .put-u322 .ensures)) (omega (arith, r))) (bytes-length word _) (omega (arith, r))
+    (then (put word _ (rw (d .before .short3 .ensures) at (d .put-u323 .ensures)) (omega (arith, r))) (bytes-length word _) (omega (arith, r))
+    (then (put word _ (rw (e .before .short4 .ensures) at (e .put-u324 .ensures)) (omega (arith, r))) (bytes-length word _) (omega (arith, r))
+    (then (put half _ (f .put-u16 .ensures) (omega (arith, r))) (bytes-length half _) (omega (arith, r))
+    (then (put byte _ (g .put-byte .ensures) (omega (arith, r))) (bytes-length byte _) (omega (arith, r))
+    (then (put byte _ (h .put-byte2 .ensures) (omega (arith, r))) (bytes-length byte _) refl (put-none _ _))))))))
 
 pub put-trailer-spec : {M : Type 1} → statement M
 put-trailer-spec =
@@ -33,8 +39,6 @@ put-trailer-spec =
     (λ c. search needs)
     (λ c. search needs)
     (λ c. search needs)
-    (λ c κs. search needs)
-    (λ c κs. search needs)
     (λ c. search needs)
     (λ c κs. search needs)
     (λ c κs. search needs)
@@ -43,6 +47,11 @@ put-trailer-spec =
     (λ c κs. search needs)
     (λ c. search needs)
     (λ c κs. search needs)
+    (λ c κs. search needs)
+    (λ c. search needs)
+    (λ c κs. search needs)
+    (λ c κs. search needs)
+    (λ c. search needs)
     (λ c κs. search needs)
     (λ c. search needs)
     (λ c κs. search needs)

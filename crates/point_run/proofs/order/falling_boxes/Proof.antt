@@ -3,8 +3,7 @@ use Prim.Native.Nat.{ℕ, _<_}
 use mathlib.Core.Path.{_≡_}
 use lib.ListN.{getD}
 use Rattle.plan_boxes.specs.Turns.{turnOf}
-use Rattle.plan_boxes.specs.Listing.{noInstance}
-use Rattle.plan_boxes.specs.Listing.{listing-at}
+use Rattle.plan_boxes.specs.Listing.{noInstance, listing-at}
 use Rattle.point_run.specs.Insert.{places-of, boxes-fall}
 use borrow.Author.Needs.{needs}
 use Rattle.point_run.proofs.order.falling_boxes.Statement.{statement}

@@ -42,7 +42,8 @@ returns : tie.Need-returns Inv-loop μ-loop
 returns c =
     let a = c .before .before .before .before .before .args in
     let l = c .before .before .before .before .loop in
-    scan-here (λ t. getD (a .volumes .now) t nan) (a .v) (a .places .now) (a .n) (l .i) (omega arith) (few (c .before .before .before .before .before)) (l .inv .1) (c .if1 .taken)
+    scan-here (λ t. getD (a .volumes .now) t nan) (a .v) (a .places .now) (a .n) (l .i) (omega arith) (few (c .before .before .before .before .before))
+    (l .inv .1) (c .if1 .taken)
 
 add-i : tie.Need-add-i Inv-loop μ-loop
 add-i c = omega arith
@@ -53,8 +54,11 @@ loop-less c = omega arith
 loop-again : tie.Need-loop-again Inv-loop μ-loop
 loop-again c =
     let a = c .before .before .before .before .before .args in
-    let l = c .before .before .before .before .loop in
-    (omega arith, scan-on (λ t. getD (a .volumes .now) t nan) (a .v) (a .places .now) (a .n) (l .i) (omega arith) (few (c .before .before .before .before .before)) (l .inv .1) (c .if1 .left))
+    let l = c .before .before .before .before .loop in (
+      omega arith,
+      scan-on (λ t. getD (a .volumes .now) t nan) (a .v) (a .places .now) (a .n) (l .i) (omega arith)
+          (few (c .before .before .before .before .before)) (l .inv .1) (c .if1 .left),
+    )
 
 returns-2 : tie.Need-returns-2 Inv-loop μ-loop
 returns-2 c =

@@ -3,7 +3,7 @@ use Prim.Native.Nat.{_≤_, _<_, _-_, _+_}
 use mathlib.Core.Path.{_≡_, refl, sym, _∙_}
 use native.Mathlib.Omega.{arith}
 use native.Mathlib.Numerals.{add-one}
-use Rattle.point_run.specs.Stored.{stored}
+use Rattle.lists.specs.Table.{table, filled}
 use lib.ListN.{getD}
 use Rattle.domain.specs.Bounds.{mostBoxes}
 use Rattle.plan_boxes.specs.Listing.{noInstance}
@@ -12,13 +12,13 @@ use Rattle.point_run.proofs.order.taken.Statement.{statement}
 use Rattle.point_run.proofs.order.taken.Tie as tie
 
 abbrev Inv-loop : tie.InvT-loop
-Inv-loop places n boxes out₀ i₀ out i = (i ≤ n) × (out ≡ stored noInstance (boxBy boxes places) i)
+Inv-loop places n boxes out₀ i₀ out i = (i ≤ n) × (out ≡ table noInstance mostBoxes (boxBy boxes places) i)
 
 abbrev μ-loop : tie.MeasureT-loop
 μ-loop places n boxes out₀ i₀ out i = n - i
 
 loop-holds : tie.Need-loop-holds Inv-loop μ-loop
-unfolding stored
+unfolding filled
 loop-holds c = (omega arith, refl)
 
 mul-p : tie.Need-mul-p Inv-loop μ-loop
@@ -50,7 +50,7 @@ loop-less : tie.Need-loop-less Inv-loop μ-loop
 loop-less c = omega arith
 
 loop-again : tie.Need-loop-again Inv-loop μ-loop
-unfolding stored boxBy
+unfolding filled boxBy
 loop-again c = let l = c .before .before .before .loop in (omega arith, rw (add-one (l .i), l .inv .1))
 
 returns : tie.Need-returns Inv-loop μ-loop

@@ -3,23 +3,23 @@ use Prim.Native.Nat.{_≤_, _<_, _-_, _+_}
 use mathlib.Core.Path.{_≡_, refl, sym, _∙_}
 use native.Mathlib.Omega.{arith}
 use native.Mathlib.Numerals.{add-one}
-use Rattle.point_run.specs.Stored.{stored}
+use Rattle.lists.specs.Table.{table, filled}
 use lib.ListN.{getD}
 use Rattle.floats.specs.Ops.{none}
-use Rattle.domain.specs.Bounds.{mostKinds}
+use Rattle.domain.specs.Bounds.{mostKinds, mostBoxes}
 use Rattle.plan_boxes.specs.Listing.{noInstance}
 use Rattle.point_run.specs.Insert.{volumeBy}
 use Rattle.point_run.proofs.order.volumes_of.Statement.{statement}
 use Rattle.point_run.proofs.order.volumes_of.Tie as tie
 
 abbrev Inv-loop : tie.InvT-loop
-Inv-loop n kinds boxes volumes₀ t₀ volumes t = (t ≤ n) × (volumes ≡ stored none (volumeBy kinds boxes) t)
+Inv-loop n kinds boxes volumes₀ t₀ volumes t = (t ≤ n) × (volumes ≡ table none mostBoxes (volumeBy kinds boxes) t)
 
 abbrev μ-loop : tie.MeasureT-loop
 μ-loop n kinds boxes volumes₀ t₀ volumes t = n - t
 
 loop-holds : tie.Need-loop-holds Inv-loop μ-loop
-unfolding stored
+unfolding filled
 loop-holds c = (omega arith, refl)
 
 mul-b : tie.Need-mul-b Inv-loop μ-loop
@@ -54,7 +54,7 @@ loop-less : tie.Need-loop-less Inv-loop μ-loop
 loop-less c = omega arith
 
 loop-again : tie.Need-loop-again Inv-loop μ-loop
-unfolding stored volumeBy
+unfolding filled volumeBy
 loop-again c = let l = c .before .before .before .before .before .loop in (omega arith, rw (c .measure .ensures, add-one (l .t), l .inv .1))
 
 returns : tie.Need-returns Inv-loop μ-loop

@@ -1,5 +1,5 @@
--- `run::ep_packing` meets its contract: an accepted order's boxes are few enough and of its kinds, so that the fill is not refused.
-use Prim.Native.Nat.{_≤_}
+-- `run::ep_packing` meets its contract: an accepted order's boxes are few enough and of its kinds, so that placing them is not refused.
+use Prim.Native.Nat.{ℕ, _≤_}
 use mathlib.Core.Path.{_≡_, sym, _∙_}
 use borrow.Author.Tests.{ne-eqb}
 use Rattle.domain.specs.Bounds.{mostBoxes}
@@ -7,7 +7,7 @@ use Rattle.sheet.specs.declared.Sheet.{Sheet}
 use Rattle.sheet.specs.Sheets.{sheetRefusal}
 use Rattle.sheet.specs.Accepted.{accepted}
 use Rattle.point_run.specs.Kinds.{boxes-few, turns-in}
-use Rattle.point_run.specs.Runs.{fillOf, epPackingOf, run-fill, run-is, run-within}
+use Rattle.point_run.specs.Runs.{runOf, epPackingOf, run-stows, run-is, run-within}
 use Rattle.point_run.proofs.run.ep_packing.Statement.{statement}
 use Rattle.point_run.proofs.run.ep_packing.Tie as tie
 
@@ -31,15 +31,20 @@ falling-boxes-requires c κs =
     let a = accepted (order b) (fair b) in
     (rw (b .boxes-in .ensures) (boxes-few (order b) a), rw (b .boxes-in .ensures) (turns-in (order b) a))
 
-fill-is : (c : tie.After-fill-in-order) → let b = c .before .before .before in c .fill-in-order .result ≡ fillOf (order b .container) (order b .kinds) (b .boxes-in .result) (c .before .before .smaller .result)
-fill-is c =
+abbrev consider : tie.After-boxes-in → ℕ
+consider c = c .before .before .before .before .before .before .args .consider
+
+stow-is : (c : tie.After-stow-in-order) → let b = c .before .before .before in
+    c .stow-in-order .result ≡ runOf (order b .container) (order b .kinds) (b .boxes-in .result) (c .before .before .smaller .result)
+stow-is c =
     let s = c .before .before in
     let b = s .before in
-    c .fill-in-order .ensures
-    ∙ run-fill (order b) (b .before .before .before .before .before .before .args .consider) (b .boxes-in .result) (s .smaller .result) (c .before .falling-boxes .result) (fair b) (b .boxes-in .ensures) (s .smaller .ensures) (c .before .falling-boxes .ensures)
+    c .stow-in-order .ensures
+    ∙ run-stows (order b) (consider b) (b .boxes-in .result) (s .smaller .result) (c .before .falling-boxes .result) (fair b) (b .boxes-in .ensures)
+    (s .smaller .ensures) (c .before .falling-boxes .ensures)
 
 plan-of-requires : tie.Need-plan-of-requires
-plan-of-requires c κs = let b = c .before .before .before in rw (fill-is c) (run-within (order b .container) (order b .kinds) _ _)
+plan-of-requires c κs = let b = c .before .before .before in rw (stow-is c) (run-within (order b .container) (order b .kinds) _ _)
 
 returns-2 : tie.Need-returns-2
 returns-2 c =
@@ -47,7 +52,8 @@ returns-2 c =
     let s = f .before .before in
     let b = s .before in
     let r = b .before .before .before .before .before in
-    run-is (order b) (r .before .args .consider) (r .sheet-refusal .result) (b .boxes-in .result) (s .smaller .result) (f .fill-in-order .result) (c .plan-of .result) (r .sheet-refusal .ensures) (b .before .before .before .before .if1 .left) (b .boxes-in .ensures) (s .smaller .ensures) (fill-is f) (c .plan-of .ensures)
+    run-is (order b) (consider b) (r .sheet-refusal .result) (b .boxes-in .result) (s .smaller .result) (f .stow-in-order .result) (c .plan-of .result)
+    (r .sheet-refusal .ensures) (b .before .before .before .before .if1 .left) (b .boxes-in .ensures) (s .smaller .ensures) (stow-is f) (c .plan-of .ensures)
 
 pub ep-packing-spec : {M : Type 1} → statement M
 ep-packing-spec =

@@ -3,7 +3,8 @@ use Prim.Native.Nat.{_≤_, _-_, _+_, _*_}
 use mathlib.Core.Path.{_≡_, refl}
 use native.Mathlib.Omega.{arith}
 use native.Mathlib.Numerals.{add-one}
-use Rattle.point_run.specs.Stored.{stored}
+use Rattle.domain.specs.Bounds.{mostLines}
+use Rattle.lists.specs.Table.{table, filled}
 use Rattle.point_state.specs.Triples.{three}
 use Rattle.plan_sheet.specs.Plans.{blankLine}
 use Rattle.point_run.specs.Runs.{lineBy}
@@ -11,17 +12,17 @@ use Rattle.point_run.proofs.run.lines_of.Statement.{statement}
 use Rattle.point_run.proofs.run.lines_of.Tie as tie
 
 abbrev Inv-loop : tie.InvT-loop
-Inv-loop boxes orientations n labels lines₀ i₀ lines i = (i ≤ n) × (lines ≡ stored blankLine (lineBy labels boxes orientations) i)
+Inv-loop boxes orientations n labels lines₀ i₀ lines i = (i ≤ n) × (lines ≡ table blankLine mostLines (lineBy labels boxes orientations) i)
 
 abbrev μ-loop : tie.MeasureT-loop
 μ-loop boxes orientations n labels lines₀ i₀ lines i = n - i
 
 loop-holds : tie.Need-loop-holds Inv-loop μ-loop
-unfolding stored
-loop-holds c = (omega arith, refl)
+unfolding filled
+loop-holds c = (omega arith, rw (c .blank-line .ensures))
 
 loop-again : tie.Need-loop-again Inv-loop μ-loop
-unfolding stored lineBy three
+unfolding filled lineBy three
 loop-again c =
     let l = c .before .before .before .before .before .before .loop in
     let e : 6 * l .i ≡ 3 * (2 * l .i) = omega arith in
@@ -29,10 +30,14 @@ loop-again c =
 
 returns : tie.Need-returns Inv-loop μ-loop
 returns c =
-    let e : c .before .loop .i ≡ c .before .before .args .n = omega arith in
+    let e : c .before .loop .i ≡ c .before .before .before .args .n = omega arith in
     rw e at (c .before .loop .inv .1)
 
 pub lines-of-spec : {M : Type 1} → statement M
 lines-of-spec =
     tie.close
-    (tie.spec Inv-loop μ-loop loop-holds (λ c. omega arith) (λ c. omega arith) (λ c. omega arith) (λ c. omega arith) (λ c. omega arith) (λ c. omega arith) (λ c. omega arith) (λ c. omega arith) (λ c. omega arith) (λ c. omega arith) (λ c. omega arith) (λ c. omega arith) (λ c. omega arith) (λ c. omega arith) (λ c. omega arith) (λ c. omega arith) (λ c. omega arith) (λ c. omega arith) (λ c. omega arith) loop-again returns)
+    (tie.spec Inv-loop μ-loop (λ c κs. tt) loop-holds
+    (λ c. omega arith) (λ c. omega arith) (λ c. omega arith) (λ c. omega arith) (λ c. omega arith) (λ c. omega arith) (λ c. omega arith)
+    (λ c. omega arith) (λ c. omega arith) (λ c. omega arith) (λ c. omega arith) (λ c. omega arith) (λ c. omega arith) (λ c. omega arith)
+    (λ c. omega arith) (λ c. omega arith) (λ c. omega arith) (λ c. omega arith) (λ c. omega arith)
+    loop-again returns)

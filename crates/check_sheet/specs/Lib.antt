@@ -1,1 +1,0 @@
--- This program's functions have no contract but to be safe and to end.

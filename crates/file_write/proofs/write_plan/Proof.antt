@@ -1,0 +1,128 @@
+-- `write_plan` meets its contract: the guards in their order, then the parts of the file one after the other.
+use Prim.Native.Nat.{_≤_}
+use mathlib.Core.Path.{_≡_, refl, sym, _∙_}
+use mathlib.Core.Bool.{false}
+use native.Mathlib.Omega.{arith}
+use lib.ListN.{length}
+use Rattle.sheet.specs.declared.Counts.{Counts}
+use Rattle.file_bytes.specs.Stores.{put-length}
+use Rattle.file_write.specs.Writing.{fileLength}
+use Rattle.sheet.specs.Columns.{Columns}
+use Rattle.file_write.specs.Planned.{overPlan}
+use Rattle.file_write.specs.PlanStores.{Holds, holds, plan-few, plan-put, told-over, told-short, told-room, told-written}
+use borrow.Author.Needs.{needs}
+use Rattle.file_write.proofs.write_plan.Statement.{statement}
+use Rattle.file_write.proofs.write_plan.Tie as tie
+
+abbrev many : tie.Start → Counts
+many s = record { kinds = s .args .kinds; lines = s .args .placed; unplaced = s .args .unplaced }
+
+abbrev columns : tie.Start → Columns
+columns s =
+    record {
+      ids = s .args .ids .now;
+      instances = s .args .instances .now;
+      turns = s .args .turns .now;
+      xs = s .args .xs .now;
+      ys = s .args .ys .now;
+      zs = s .args .zs .now;
+    }
+
+-- past the first test the columns hold the counts
+within : (c : tie.Else1) → overPlan (many (c .before .before .before .before)) ≡ false
+within c = sym (c .before .over-plan .ensures) ∙ c .if1 .left
+
+fine : (c : tie.Else1) → Holds (many (c .before .before .before .before))
+fine c = holds _ (within c)
+
+-- past the third there is room
+room : (c : tie.Else3) → fileLength (many (c .before .before .before .before .before .before .before)) ≤ length (c .before .before .before .before .before .before .before .args .out .now)
+room c = let e = c .before .file-length .ensures in omega arith
+
+returns : tie.Need-returns
+returns c = let s = c .before .before .before .before in told-over _ (many s) (columns s) _ _ (sym (c .before .over-plan .ensures) ∙ c .if1 .taken)
+
+mul-start : tie.Need-mul-start
+mul-start c = let h = fine c in omega arith
+
+add-start : tie.Need-add-start
+add-start c = let h = fine c in omega arith
+
+returns-2 : tie.Need-returns-2
+returns-2 c =
+    let s = c .before .before .before .before .before in
+    told-short _ (many s) (columns s) _ _ (within (c .before)) (c .if2 .taken)
+
+file-length-requires : tie.Need-file-length-requires
+file-length-requires c κs = plan-few _ (fine (c .before))
+
+returns-3 : tie.Need-returns-3
+returns-3 c =
+    let n = c .before in
+    let e = n .before .before in
+    let s = e .before .before .before .before in
+    told-room _ (many s) (columns s) _ _ _ (within e) (n .before .if2 .left) (n .file-length .ensures) (c .if3 .taken)
+
+put-columns-requires : tie.Need-put-columns-requires
+put-columns-requires c κs =
+    let e = c .before .before .before .before .before in
+    let h = fine (e .before .before .before) in
+    let r = room e in
+    let q = put-length (c .before .before .before .put-head .ensures) in
+    (h .lines, omega arith)
+
+put-left-requires : tie.Need-put-left-requires
+put-left-requires c κs =
+    let k = c .before .before .before in
+    let a = k .before .before .before .before in
+    let e = a .before .before in
+    let h = fine (e .before .before .before) in
+    let r = room e in
+    let q = put-length (a .put-head .ensures) in
+    let p = put-length (k .put-columns .ensures) in
+    (h .left, omega arith)
+
+put-trailer-requires : tie.Need-put-trailer-requires
+put-trailer-requires c κs =
+    let u = c .before .before .before in
+    let k = u .before .before .before .before in
+    let a = k .before .before .before .before in
+    let e = a .before .before in
+    let r = room e in
+    let q = put-length (a .put-head .ensures) in
+    let p = put-length (k .put-columns .ensures) in
+    let w = put-length (u .put-left .ensures) in
+    (plan-few _ (fine (e .before .before .before)), omega arith)
+
+returns-4 : tie.Need-returns-4
+returns-4 c =
+    let t = c .before .before in
+    let u = t .before .before .before .before in
+    let k = u .before .before .before .before in
+    let a = k .before .before .before .before in
+    let e = a .before .before in
+    let n = e .before in
+    let o = n .before .before in
+    let s = o .before .before .before .before in
+    told-written _ (many s) (columns s) _ _ _ _ (within o) (n .before .if2 .left) (n .file-length .ensures) (e .if3 .left)
+    (plan-put _ (many s) (columns s) _ (n .before .if2 .left) (a .put-head .ensures) (k .put-columns .ensures) (u .put-left .ensures) (t .put-trailer .ensures))
+
+pub write-plan-spec : {M : Type 1} → statement M
+write-plan-spec =
+    tie.close
+    (tie.spec
+    (λ c κs. search needs)
+    returns
+    mul-start
+    add-start
+    returns-2
+    file-length-requires
+    returns-3
+    (λ c κs. search needs)
+    put-columns-requires
+    (λ c. search needs)
+    (λ c. search needs)
+    put-left-requires
+    put-trailer-requires
+    (λ c. search needs)
+    returns-4)

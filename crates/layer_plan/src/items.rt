@@ -1,0 +1,164 @@
+// Given items of a load file's order, in the given order and orientations, each an instance of a given list.
+ghost use mathlib.Core.Path.{_≡_};
+ghost use Prim.Native.Nat.{_<_};
+ghost use Rattle.file_read.specs.Reading.{sheetOf};
+ghost use Rattle.layer_plan.specs.Run.{runBy};
+ghost use Rattle.layer_plan.specs.Offers.{itemOffer};
+ghost use Rattle.sheet.specs.Columns.{columns};
+ghost use Rattle.plan_sheet.specs.Laid.{Lays};
+ghost use Rattle.layer_plan.specs.Columns.{Holds};
+ghost use Rattle.layer_plan.specs.Items.{Fit, Tries, itemsIn, refusedTold};
+use crate::lay::Laid;
+use crate::lay::put_line;
+use crate::offers::ITEM;
+use file_read::records;
+use layer_fitness::at_least_one;
+use layer_instances::RECORD;
+use layer_state::Stand;
+use layer_state::Step;
+use measures::Container;
+use plan_sheet::Told;
+
+// What an item comes to: its step, and the id and instance of its line, where it has one.
+struct Tried {
+    step: Step,
+    id: u32,
+    instance: u32,
+}
+
+// Offers item j: the instance that its place names, turned by its orientation modulo the record's own count. An item past the records is skipped.
+fn try_item(f: &[u8], stand: Stand, records: &[u32], items: &[u32], n: usize, j: usize) -> Tried
+    requires { ⌜ Fit (now f) (now records) (now items) n × (j < n) ⌝ }
+    ensures { λ r. ⌜ Tries stand (sheetOf (now (f .entry)) .kinds) (itemOffer (now (records .entry)) (now (items .entry)) j) (r .step) (r .id) (r .instance) ⌝ }
+{
+    let i = j * ITEM;
+    let p = items[i] as usize;
+    let o = items[i + 1];
+    if p < records.len() / RECORD {
+        let at = p * RECORD;
+        let k = records[at] as usize;
+        let instance = records[at + 1];
+        let count = at_least_one(records[at + 2]);
+        let kind = records::kind_in(f, k);
+        let step = stand.place(kind, o % count);
+        return Tried {
+            step,
+            id: kind.id,
+            instance,
+        };
+    }
+    let step = layer_state::no_step(stand);
+    Tried {
+        step,
+        id: 0,
+        instance: 0,
+    }
+}
+
+// The first n items into the columns.
+fn lay_each(
+    f: &[u8],
+    container: Container,
+    records: &[u32],
+    items: &[u32],
+    n: usize,
+    ids: &mut [u32; domain::MOST_LINES],
+    instances: &mut [u32; domain::MOST_LINES],
+    turns: &mut [u32; domain::MOST_LINES],
+    xs: &mut [f64; domain::MOST_LINES],
+    ys: &mut [f64; domain::MOST_LINES],
+    zs: &mut [f64; domain::MOST_LINES],
+) -> Laid
+    requires { ⌜ Fit (now f) (now records) (now items) n ⌝ }
+    ensures { λ r. ⌜ Holds (runBy container (sheetOf (now (f .entry)) .kinds) (itemOffer (now (records .entry)) (now (items .entry))) n) (r .stand) (r .count)
+        (columns (now (ids .entry)) (now (instances .entry)) (now (turns .entry)) (now (xs .entry)) (now (ys .entry)) (now (zs .entry)))
+        (columns (now (ids .exit)) (now (instances .exit)) (now (turns .exit)) (now (xs .exit)) (now (ys .exit)) (now (zs .exit))) ⌝ }
+{
+    let mut stand = Stand::new(container);
+    let mut count = 0;
+    let mut j = 0;
+    while j < n {
+        let tried = try_item(f, stand, records, items, n, j);
+        let s = tried.step;
+        count = put_line(
+            s,
+            tried.id,
+            tried.instance,
+            count,
+            ids,
+            instances,
+            turns,
+            xs,
+            ys,
+            zs,
+        );
+        let next = s.next;
+        stand = next;
+        j += 1;
+    }
+    Laid { stand, count }
+}
+
+fn refused_told(refused: u32) -> Told
+    ensures { λ r. ⌜ r ≡ refusedTold refused ⌝ }
+{
+    Told {
+        refused,
+        considered: 0,
+        placed: 0,
+        utilization: 0.0,
+    }
+}
+
+// Items into lent columns, as far as `consider` goes: a cell of each for a line, the others as they were. Refused by 1 for the shape, 2 for too many items
+// or records, what else the file gets, 9 for a record of no kind of it.
+pub fn lay_items(
+    order: &[u8],
+    records: &[u32],
+    items: &[u32],
+    consider: u64,
+    ids: &mut [u32; domain::MOST_LINES],
+    instances: &mut [u32; domain::MOST_LINES],
+    turns: &mut [u32; domain::MOST_LINES],
+    xs: &mut [f64; domain::MOST_LINES],
+    ys: &mut [f64; domain::MOST_LINES],
+    zs: &mut [f64; domain::MOST_LINES],
+) -> Told
+    ensures { λ r. ⌜ Lays (itemsIn (now (order .entry)) (now (records .entry)) (now (items .entry)) consider) r
+        (columns (now (ids .entry)) (now (instances .entry)) (now (turns .entry)) (now (xs .entry)) (now (ys .entry)) (now (zs .entry)))
+        (columns (now (ids .exit)) (now (instances .exit)) (now (turns .exit)) (now (xs .exit)) (now (ys .exit)) (now (zs .exit))) ⌝ }
+{
+    let many = items.len() / ITEM;
+    if (many > domain::MOST_ITEMS) | (records.len() / RECORD > domain::MOST_INSTANCES) {
+        return refused_told(layer_instances::over_number(order));
+    }
+    let a = file_accept::accept(order);
+    if a.refused != 0 {
+        return refused_told(a.refused);
+    }
+    if layer_instances::has_stranger(records, a.kinds) {
+        return refused_told(9);
+    }
+    let n = plan_sheet::smaller(consider, many as u64);
+    let container = records::container_in(order);
+    let l = lay_each(
+        order,
+        container,
+        records,
+        items,
+        n as usize,
+        ids,
+        instances,
+        turns,
+        xs,
+        ys,
+        zs,
+    );
+    let stand = l.stand;
+    Told {
+        refused: 0,
+        considered: n,
+        placed: l.count,
+        utilization: stand.utilization(),
+    }
+}

@@ -1,0 +1,2 @@
+-- The orientations that a sheet's lines give to an instance list.
+pub mod Seeds

@@ -1,0 +1,96 @@
+// A plan whose lines stand in lent columns, handed out into lent words.
+ghost use mathlib.Core.Path.{_≡_};
+ghost use Prim.Native.Nat.{_*_, _≤_};
+ghost use lib.ListN.{length};
+ghost use Rattle.domain.specs.Bounds.{mostLines};
+ghost use Rattle.lists.specs.Rows.{wrote};
+ghost use Rattle.sheet.specs.Columns.{columns, lineFor};
+ghost use Rattle.plan_sheet.specs.Columns.{rowBy, Handed};
+use crate::Packed;
+use crate::Told;
+use crate::WORDS;
+use crate::hand_refusal;
+use crate::put_line;
+use crate::refused_pack;
+use plan_unplaced::Left;
+use sheet::Line;
+
+// A line of a planned sheet.
+fn line_for(id: u32, instance: u32, orientation: u32, x: f64, y: f64, z: f64) -> Line
+    ensures { λ r. ⌜ r ≡ lineFor id instance orientation x y z ⌝ }
+{
+    Line {
+        id,
+        instance,
+        orientation,
+        bin: 0,
+        at: [x, y, z],
+    }
+}
+
+// The words of the first n lines, one line after the other. The words past them stay.
+fn put_columns(
+    out: &mut [u64],
+    ids: &[u32; domain::MOST_LINES],
+    instances: &[u32; domain::MOST_LINES],
+    turns: &[u32; domain::MOST_LINES],
+    xs: &[f64; domain::MOST_LINES],
+    ys: &[f64; domain::MOST_LINES],
+    zs: &[f64; domain::MOST_LINES],
+    n: usize,
+)
+    requires { ⌜ (n ≤ mostLines) × (n * 6 ≤ length (now out)) ⌝ }
+    ensures { λ _. ⌜ now (out .exit) ≡ wrote (rowBy (record {
+      ids = now (ids .entry);
+      instances = now (instances .entry);
+      turns = now (turns .entry);
+      xs = now (xs .entry);
+      ys = now (ys .entry);
+      zs = now (zs .entry);
+    })) 6 n (now (out .entry)) ⌝ }
+{
+    let mut i = 0;
+    while i < n {
+        let l = line_for(ids[i], instances[i], turns[i], xs[i], ys[i], zs[i]);
+        put_line(&mut out[..], i * WORDS, l);
+        i += 1;
+    }
+}
+
+// Hands a plan out: the lines from the columns into lent words, six to a line, the rest as the answer. A refusal changes no word.
+pub fn hand_columns(
+    told: Told,
+    left: Left,
+    ids: &[u32; domain::MOST_LINES],
+    instances: &[u32; domain::MOST_LINES],
+    turns: &[u32; domain::MOST_LINES],
+    xs: &[f64; domain::MOST_LINES],
+    ys: &[f64; domain::MOST_LINES],
+    zs: &[f64; domain::MOST_LINES],
+    slots: &mut [u64],
+) -> Packed
+    ensures { λ r. ⌜ Handed told left (record {
+      ids = now (ids .entry);
+      instances = now (instances .entry);
+      turns = now (turns .entry);
+      xs = now (xs .entry);
+      ys = now (ys .entry);
+      zs = now (zs .entry);
+    }) (now (slots .entry)) r (now (slots .exit)) ⌝ }
+{
+    let refused = hand_refusal(told.refused, told.placed, left.count, slots.len());
+    if refused != 0 {
+        return refused_pack(refused, told.placed);
+    }
+    put_columns(slots, ids, instances, turns, xs, ys, zs, told.placed);
+    let names = left.ids;
+    Packed {
+        refused: 0,
+        needed: told.placed,
+        placed: told.placed,
+        considered: told.considered,
+        utilization: told.utilization,
+        unplaced: left.count,
+        ids: names,
+    }
+}

@@ -1,0 +1,2 @@
+-- Two placed boxes that overlap.
+pub mod Overlap

@@ -1,0 +1,2 @@
+-- What the calls that only read a state answer.
+pub mod Reads

@@ -1,0 +1,248 @@
+-- A run into lent columns: what stands in them after each box, and that it is the plan of the definition. RULES: First placer: run · Lent memory
+use mathlib.Core.Path.{_≡_, refl, sym, _∙_, ap}
+use mathlib.Core.Bool.{Bool, true, false, cond}
+use mathlib.Core.List.{List, [], _∷_}
+use Prim.Native.Nat.{ℕ, zero, suc, _+_, _*_, _≤_, _<_}
+use native.Mathlib.Nat.{le-refl}
+use native.Mathlib.Numerals.{add-one}
+use native.Mathlib.Omega.{arith}
+use lib.ListN.{length, getD, set, replicate, length-set, length-replicate}
+use lib.Seq.{getD-set-same, getD-set-other}
+use lib.Ieee.{Float}
+use Rattle.floats.specs.Ops.{x, y, z, none, _⊕_, _⊘_}
+use Rattle.lists.specs.Table.{filled, filled-same}
+use Rattle.domain.specs.Bounds.{mostBoxes, mostLines}
+use Rattle.measures.specs.declared.Container.{Container}
+use Rattle.measures.specs.declared.Kind.{Kind}
+use Rattle.measures.specs.Faults.{kindFault}
+use Rattle.measures.specs.Volume.{volume}
+use Rattle.measures.specs.Orders.{lengthsIn}
+use Rattle.plan_boxes.specs.declared.Instance.{Instance}
+use Rattle.plan_boxes.specs.Listing.{noInstance}
+use Rattle.sheet.specs.declared.Line.{Line}
+use Rattle.sheet.specs.Sheets.{noKind}
+use Rattle.plan_sheet.specs.declared.Told.{Told}
+use Rattle.plan_sheet.specs.Laid.{planIn, toldOf, laid}
+use Rattle.sheet.specs.Columns.{Columns, columns, idOf, instanceOf, orientationOf, xOf, yOf, zOf}
+use Rattle.point_state.specs.declared.ExtremePointSet.{ExtremePointSet}
+use Rattle.point_state.specs.declared.Label.{Label}
+use Rattle.point_state.specs.Triples.{cells, three, three-other, triple-in, tripleIn}
+use Rattle.point_state.specs.Boxes.{noLabel, volumeBelow, massWith}
+use Rattle.point_state.specs.Fresh.{blank, startOf}
+use Rattle.point_grow.specs.Grow.{putBox, afterBox}
+use Rattle.point_place.specs.Place.{labelOf}
+use Rattle.point_step.specs.declared.Stood.{Stood}
+use Rattle.point_step.specs.Step.{Stores, stores, StepIs}
+use Rattle.point_stow.specs.declared.Stowed.{Stowed}
+use Rattle.point_stow.specs.Stow.{stowedBy}
+use Rattle.point_stow.specs.Turns.{Steady, fresh-empty, pickAt, stow-more, turn-none, turn-some, step-stays, step-state, step-steady}
+use Rattle.point_run.specs.declared.lay.Stand.{Stand}
+use Rattle.point_run.specs.Runs.{lineBy, lineOf, epPackingOf}
+
+-- a cell of each for each of the first `held` boxes, the others as they were
+pub record Filled (old : Columns) (labels : List Label) (boxes : List Float) (orientations : List ℕ) (held : ℕ) (now : Columns) : Type 0 where
+  pub ids-are : now .ids ≡ filled (old .ids) (λ j. lineBy labels boxes orientations j .id) held
+  pub instances-are : now .instances ≡ filled (old .instances) (λ j. lineBy labels boxes orientations j .instance) held
+  pub turns-are : now .turns ≡ filled (old .turns) (λ j. lineBy labels boxes orientations j .orientation) held
+  pub xs-are : now .xs ≡ filled (old .xs) (λ j. x (lineBy labels boxes orientations j .at)) held
+  pub ys-are : now .ys ≡ filled (old .ys) (λ j. y (lineBy labels boxes orientations j .at)) held
+  pub zs-are : now .zs ≡ filled (old .zs) (λ j. z (lineBy labels boxes orientations j .at)) held
+
+-- what the loop over the boxes comes to: the columns, how many boxes stand, and their volume
+abbrev pub stowed : Container → List Kind → List Instance → ℕ → Stowed
+stowed c kinds items n = stowedBy (startOf c false) kinds items n
+
+pub record EachIs (c : Container) (kinds : List Kind) (items : List Instance) (n : ℕ) (old : Columns) (r : Stand) (now : Columns) : Type 0 where
+  pub held-is : r .held ≡ stowed c kinds items n .next .held
+  pub volume-is : r .volume ≡ volumeBelow (stowed c kinds items n .next .boxes) (stowed c kinds items n .next .held)
+  pub filled-is :
+      Filled old (stowed c kinds items n .next .labels) (stowed c kinds items n .next .boxes) (stowed c kinds items n .orientations)
+      (stowed c kinds items n .next .held) now
+
+-- what the call comes to: what is told of the plan, and its lines in the columns
+pub record LayIs (f : List ℕ) (consider : ℕ) (old : Columns) (r : Told) (now : Columns) : Type 0 where
+  pub told-is : r ≡ toldOf (planIn epPackingOf f consider)
+  pub ids-are : now .ids ≡ laid idOf (old .ids) (planIn epPackingOf f consider)
+  pub instances-are : now .instances ≡ laid instanceOf (old .instances) (planIn epPackingOf f consider)
+  pub turns-are : now .turns ≡ laid orientationOf (old .turns) (planIn epPackingOf f consider)
+  pub xs-are : now .xs ≡ laid xOf (old .xs) (planIn epPackingOf f consider)
+  pub ys-are : now .ys ≡ laid yOf (old .ys) (planIn epPackingOf f consider)
+  pub zs-are : now .zs ≡ laid zOf (old .zs) (planIn epPackingOf f consider)
+
+-- ---- one box more
+
+-- a column with one cell more
+pub column-more : {A : Type 0} (old : List A) (g h : ℕ → A) (n : ℕ) (v : A) → ((j : ℕ) → j < n → g j ≡ h j) → v ≡ h n
+    → set (filled old g n) n v ≡ filled old h (n + 1)
+unfolding filled
+column-more old g h n v e q = rw (add-one, filled-same old g h n e, q)
+
+-- the lines of the boxes before stay, and the new one has its label, its orientation and its place
+module _ (labels : List Label) (boxes : List Float) (orientations : List ℕ) (held : ℕ) (label : Label) (at size : List Float) (o : ℕ) where
+  abbrev after : ℕ → Line
+  after = lineBy (set labels held label) (putBox boxes held at size) (set orientations held o)
+
+  box-other : (j : ℕ) → j < 2 * held → three (putBox boxes held at size) j ≡ three boxes j
+  unfolding putBox
+  box-other j l = three-other _ (2 * held + 1) j size (λ e. omega arith) ∙ three-other boxes (2 * held) j at (λ e. omega arith)
+
+  pub line-before : (j : ℕ) → j < held → lineBy labels boxes orientations j ≡ after j
+  unfolding lineBy
+  line-before j l =
+      rw (
+        getD-set-other labels held j label noLabel (λ e. omega arith),
+        getD-set-other orientations held j o 0 (λ e. omega arith),
+        box-other (2 * j)
+            (omega arith),
+      )
+
+  pub line-new : held < length labels → held < length orientations
+      → after held ≡ record { id = label .id; instance = label .instance; orientation = o; bin = 0; at = three (putBox boxes held at size) (2 * held) }
+  unfolding lineBy
+  line-new l m = rw (getD-set-same labels held label noLabel l, getD-set-same orientations held o 0 m)
+
+  pub volume-more : (v : Float) → v ≡ volumeBelow boxes held
+      → v ⊕ volume (three (putBox boxes held at size) (2 * held + 1)) ≡ volumeBelow (putBox boxes held at size) (held + 1)
+  unfolding volumeBelow
+  volume-more v e = rw (add-one held, e, volume-other held (le-refl held))
+    where
+      volume-other : (n : ℕ) → n ≤ held → volumeBelow boxes n ≡ volumeBelow (putBox boxes held at size) n
+      volume-other zero h = refl
+      volume-other (suc n) h = rw (volume-other n (omega arith), box-other (2 * n + 1) (omega arith))
+
+-- ---- what the loop keeps, with the labels and the orientations that the columns stand for
+
+abbrev pub state : Container → ℕ → ℕ → List Float → List Float → List Label → ExtremePointSet
+state c live held points boxes labels = record { container = c; live = live; held = held; points = points; boxes = boxes; labels = labels }
+
+abbrev pub soFar : ExtremePointSet → List ℕ → Stowed
+soFar s orientations = record { refused = 0; next = s; orientations = orientations }
+
+pub record Holds (c : Container) (kinds : List Kind) (items : List Instance) (i live held : ℕ) (points boxes walls : List Float) (mass vol : Float)
+    (old now : Columns)
+    : Type 0 where
+  pub labels : List Label
+  pub orientations : List ℕ
+  pub same : soFar (state c live held points boxes labels) orientations ≡ stowed c kinds items i
+  pub steady : Steady (state c live held points boxes labels) walls mass
+  pub long : length orientations ≡ mostBoxes
+  pub volume-is : vol ≡ volumeBelow boxes held
+  pub filled-is : Filled old labels boxes orientations held now
+
+-- the empty container
+pub holds-none : (c : Container) (kinds : List Kind) (items : List Instance) (points : List Float) (old : Columns) → points ≡ startOf c false .points
+    → Holds c kinds items 0 1 0 points (replicate cells none) (replicate cells none) none none old old
+unfolding stowedBy startOf volumeBelow filled
+holds-none c kinds items points old e =
+    let h = fresh-empty c false in
+    rw e
+    (record {
+      labels = replicate mostBoxes blank;
+      orientations = replicate mostBoxes 0;
+      same = refl;
+      steady = h .steady;
+      long = length-replicate {A = ℕ} mostBoxes 0;
+      volume-is = refl;
+      filled-is = record { ids-are = refl; instances-are = refl; turns-are = refl; xs-are = refl; ys-are = refl; zs-are = refl };
+    })
+
+module _ (c : Container) (kinds : List Kind) (items : List Instance) (i live held : ℕ) (points boxes walls : List Float) (hints : List ℕ) (mass vol : Float)
+    (old now : Columns) (h : Holds c kinds items i live held points boxes walls mass vol old now) (room : held < mostBoxes) where
+  abbrev item : Instance
+  item = getD items i noInstance
+
+  abbrev kind : Kind
+  kind = getD kinds (item .kind) noKind
+
+  abbrev s : ExtremePointSet
+  s = state c live held points boxes (h .labels)
+
+  module _ (right : kindFault kind false ≡ 0) (r : Stood) (t : Stores) (k : StepIs c live held mass kind (stores points boxes walls hints) r t) where
+    -- the box does not stand
+    pub holds-still : r .found ≡ false → Holds c kinds items (i + 1) live held (t .points) (t .boxes) (t .walls) mass vol old now
+    holds-still e =
+        let y = step-stays s walls hints mass kind (h .steady) room r t k e in
+        rw (y .points-stay, y .boxes-stay, y .walls-stay)
+        (record {
+          labels = h .labels;
+          orientations = h .orientations;
+          same = sym (stow-more _ kinds items i (soFar s (h .orientations)) (h .same)
+              ∙ turn-none s walls hints mass kind (h .steady) room (item .instance) (h .orientations) right (sym (k .found-is) ∙ e));
+          steady = h .steady;
+          long = h .long;
+          volume-is = h .volume-is;
+          filled-is = h .filled-is;
+        })
+
+    -- it stands: a cell more of each column
+    abbrev label : Label
+    label = labelOf kind (item .instance)
+
+    abbrev place : List Float
+    place = tripleIn (t .boxes) (2 * held)
+
+    abbrev pub cellsWith : Columns
+    cellsWith =
+        columns (set (now .ids) held (kind .id)) (set (now .instances) held (item .instance)) (set (now .turns) held (r .orientation))
+        (set (now .xs) held (x place)) (set (now .ys) held (y place)) (set (now .zs) held (z place))
+
+    box-is : r .found ≡ true
+        → t .boxes ≡ putBox boxes held (three points (pickAt s walls hints mass kind (h .steady) room .index))
+        (lengthsIn kind (pickAt s walls hints mass kind (h .steady) room .orientation))
+    unfolding afterBox
+    box-is e = ap (λ (v : ExtremePointSet). v .boxes) (step-state s walls hints mass kind (h .steady) room r t k label e)
+
+    cells-with : r .found ≡ true → Filled old (set (h .labels) held label) (t .boxes) (set (h .orientations) held (r .orientation)) (held + 1) cellsWith
+    cells-with e =
+        let b = box-is e in
+        let at = three points (pickAt s walls hints mass kind (h .steady) room .index) in
+        let size = lengthsIn kind (pickAt s walls hints mass kind (h .steady) room .orientation) in
+        let before = line-before (h .labels) boxes (h .orientations) held label at size (r .orientation) in
+        let new = line-new (h .labels) boxes (h .orientations) held label at size (r .orientation) (rw (h .steady .long) room) (rw (h .long) room) in
+        let in-store = triple-in (t .boxes) (2 * held) (omega arith) in
+        let f = h .filled-is in
+        rw (in-store, b)
+        (record {
+          ids-are = rw (f .ids-are) (column-more (old .ids) _ _ held _ (λ j l. ap (λ (v : Line). v .id) (before j l)) (sym (ap (λ (v : Line). v .id) new)));
+          instances-are = rw (f .instances-are) (column-more (old .instances) _ _ held _ (λ j l. ap (λ (v : Line). v .instance) (before j l))
+              (sym (ap (λ (v : Line). v .instance) new)));
+          turns-are = rw (f .turns-are) (column-more (old .turns) _ _ held _ (λ j l. ap (λ (v : Line). v .orientation) (before j l))
+              (sym (ap (λ (v : Line). v .orientation) new)));
+          xs-are = rw (f .xs-are) (column-more (old .xs) _ _ held _ (λ j l. ap (λ (v : Line). x (v .at)) (before j l))
+              (sym (ap (λ (v : Line). x (v .at)) new)));
+          ys-are = rw (f .ys-are) (column-more (old .ys) _ _ held _ (λ j l. ap (λ (v : Line). y (v .at)) (before j l))
+              (sym (ap (λ (v : Line). y (v .at)) new)));
+          zs-are = rw (f .zs-are) (column-more (old .zs) _ _ held _ (λ j l. ap (λ (v : Line). z (v .at)) (before j l))
+              (sym (ap (λ (v : Line). z (v .at)) new)));
+        })
+
+    pub holds-next : (m v : Float) → r .found ≡ true → m ≡ massWith mass (kind .massed) (kind .mass) → v ≡ vol ⊕ volume (tripleIn (t .boxes) (2 * held + 1))
+        → Holds c kinds items (i + 1) (r .live) (held + 1) (t .points) (t .boxes) (t .walls) m v old cellsWith
+    holds-next m v e g w =
+        let b = box-is e in
+        let at = three points (pickAt s walls hints mass kind (h .steady) room .index) in
+        let size = lengthsIn kind (pickAt s walls hints mass kind (h .steady) room .orientation) in
+        let p = step-state s walls hints mass kind (h .steady) room r t k label e in
+        record {
+          labels = set (h .labels) held label;
+          orientations = set (h .orientations) held (r .orientation);
+          same = stood-by _ _ (h .orientations) held _ _ p (k .orientation-is)
+              ∙ sym (stow-more _ kinds items i (soFar s (h .orientations)) (h .same)
+              ∙ turn-some s walls hints mass kind (h .steady) room (item .instance) (h .orientations) right (sym (k .found-is) ∙ e));
+          steady = rw g (step-steady s walls hints mass kind (h .steady) room r t k label e);
+          long = length-set (h .orientations) held (r .orientation) ∙ h .long;
+          volume-is = w ∙ rw (triple-in (t .boxes) (2 * held + 1) (omega arith), b)
+              (volume-more (h .labels) boxes (h .orientations) held label at size (r .orientation) vol (h .volume-is));
+          filled-is = cells-with e;
+        }
+      where
+        stood-by : (q u : ExtremePointSet) (turns : List ℕ) (n o w : ℕ) → q ≡ u → o ≡ w → soFar q (set turns n o) ≡ soFar u (set turns n w)
+        stood-by q u turns n o w e f = rw (e, f)
+
+-- after the last box
+pub holds-all : (c : Container) (kinds : List Kind) (items : List Instance) (n live held : ℕ) (points boxes walls : List Float) (mass vol : Float)
+    (old now : Columns)
+    → Holds c kinds items n live held points boxes walls mass vol old now → EachIs c kinds items n old (record { held = held; volume = vol }) now
+holds-all c kinds items n live held points boxes walls mass vol old now h =
+    let e = h .same in
+    record { held-is = rw (← e); volume-is = rw (← e) (h .volume-is); filled-is = rw (← e) (h .filled-is) }

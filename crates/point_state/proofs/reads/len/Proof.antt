@@ -1,9 +1,0 @@
--- `point_state::reads::len` meets its contract: the count, or the refusal.
-use Rattle.point_state.proofs.reads.len.Statement.{statement}
-use Rattle.point_state.proofs.reads.len.Tie as tie
-
-returns : tie.Need-returns
-returns c = rw (c .counted .ensures, c .before .over-counts .ensures)
-
-pub len-spec : {M : Type 1} → statement M
-len-spec = tie.close (tie.spec (λ c κs. tt) (λ c κs. tt) returns)

@@ -1,0 +1,2 @@
+-- What the totals of a state are told as.
+pub mod Totals

@@ -1,0 +1,2 @@
+-- How the planner reads a number.
+pub mod Number
