@@ -45,7 +45,7 @@ pub record Renumbered (s t : Sheet) : Type 0 where
 
 -- ---- a list of words, read as findings
 
--- 01: "A finding is five u64 words": its number, and four fields
+-- RULES: Findings: words. A finding is five words: its number, and four fields
 pub record Finding : Type 0 where
   pub number : ℕ
   pub first : ℕ
@@ -77,7 +77,7 @@ change f (c ∷ a ∷ b ∷ []) = []
 change f (c ∷ a ∷ b ∷ d ∷ []) = []
 change f (c ∷ a ∷ b ∷ d ∷ e ∷ ws) = wordsOf (f (finding c a b d e)) ++ change f ws
 
--- ---- which findings are meant, by the numbers of 01: each of the eleven is in one of these
+-- ---- which findings are meant, by their numbers (RULES: Findings: words): each of the eleven is in one of these
 
 -- one of these numbers
 abbrev pub among : ℕ → List ℕ → Bool

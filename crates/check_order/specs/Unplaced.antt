@@ -130,7 +130,7 @@ module _ (s : Sheet) (k : ℕ) where
   packed-below zero = sym (sum-none (λ m. 0) (kindAt s k .quantity) (λ m l. refl))
   packed-below (suc n) = step n (packed-below n)
 
-  -- 01: "distinct instances in range placed"
+  -- RULES: Findings: unplaced. The instances of a kind that are in range and placed, each once
   pub packed-distinct : packed s k ≡ sumBelow (λ m. when (isPlaced s k (s .many .lines) m) 1) (kindAt s k .quantity)
   unfolding packed
   packed-distinct = packed-below (s .many .lines)

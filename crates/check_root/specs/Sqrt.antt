@@ -1,5 +1,5 @@
 -- IEEE 754's squareRoot, nearest, ties to even. It computes, so a worked example is an equation that the check works out.
--- 01: "The root is the correctly rounded one, stated over whole numbers by squares." The squares are in specs/Squares.antt.
+-- RULES: Square root. The correctly rounded root, said over whole numbers by their squares, which are in specs/Squares.antt.
 use Prim.Native.Nat.{ℕ, zero, suc, _+_, _*_, _/_, _%_, _^_}
 use mathlib.Core.Bool.{true, false, cond}
 use lib.Ieee.{Float, nan, inf, fin, Format, low, up, down, round}

@@ -139,7 +139,7 @@ number-r (fin s m e) (fin t n d) h = tt
 limit-top : (size margin : Float) → isLength size ≡ true → signed false margin → T (le (size ⊖ margin) most)
 limit-top size margin h p = less-top size margin (at-most size h) p
 
--- 01: "no" where x + width is over the far limit; where it is not, x is in range
+-- RULES: Second placer: cursor. No, where x + width is over the far limit; where it is not, x is in range
 pub layer-axis : (size margin at len : Float) → isLength size ≡ true → signed false margin → signed false at → isLength len ≡ true
     → lt (size ⊖ margin) (at ⊕ len) ≡ false → isPosition at ≡ true
 layer-axis size margin at len h p q k e =
@@ -149,7 +149,7 @@ layer-axis size margin at len h p q k e =
     (signed-number false (at ⊕ len) (add-signed binary64 at len q (not-negative len k))) (fails e) in
     between at (low-none at q) (end-top at len (signed-number false at q) (least len k) (le-chain (at ⊕ len) (size ⊖ margin) most far top))
 
--- 01: "position ≥ margin − E and position + length ≤ container − margin + E"
+-- RULES: First placer: point test. A box that is inside, up to the slack at both ends, stands at a position in range
 pub point-axis : (size margin at len : Float) → isLength size ≡ true → signed false margin → T (not (isNan at)) → isLength len ≡ true
     → lt at (margin ⊖ slack) ≡ false → lt (size ⊖ margin ⊕ slack) (at ⊕ len) ≡ false → isPosition at ≡ true
 point-axis size margin at len h p q k e f =

@@ -7,7 +7,7 @@ use native.Mathlib.Omega.{arith}
 use borrow.Author.Tests.{ltb-true}
 use lib.Dec.{ltb}
 
--- 01: "the smaller of that number and the total"
+-- RULES: First placer: run. As many boxes are considered as are asked for, or all, if there are fewer
 abbrev pub smaller : ℕ → ℕ → ℕ
 smaller a b = cond (ltb a b) a b
 

@@ -37,7 +37,7 @@ handRefusal refused placed unplaced room = orElse (planRefusal refused placed un
 abbrev refusalFor : Plan → ℕ → ℕ
 refusalFor p room = handRefusal (p .refused) (p .placed) (p .unplaced) room
 
--- 01: "A refusal returns its number (6 also its count)"
+-- RULES: Refusals. A refusal gives its number, and 6 the count that needs room too
 abbrev pub refusedPack : ℕ → ℕ → Packed
 refusedPack r placed =
     record {

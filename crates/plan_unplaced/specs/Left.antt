@@ -36,12 +36,12 @@ noLeft r = record { refused = r; count = 0; ids = replicate mostKinds 0 }
 unfoldable pub pushIf : Bool → ℕ → Left → Left
 pushIf short id l = cond short (record { refused = l .refused; count = l .count + 1; ids = set (l .ids) (l .count) id }) l
 
--- 01: "each kind with fewer distinct instances in range placed than its quantity, once, in kind order"
+-- RULES: Unplaced list. The ids of the kinds that are marked as short, each once, in the order of the kinds
 unfoldable pub leftAfter : List Kind → List Bool → ℕ → Left
 leftAfter kinds flags zero = noLeft 0
 leftAfter kinds flags (suc m) = pushIf (getD flags m false) (getD kinds m noKind .id) (leftAfter kinds flags m)
 
--- 01: "a count .. is over its bound"
+-- RULES: Refusals. More kinds or lines than there may be
 abbrev pub overBound : ℕ → ℕ → Bool
 overBound m n = ltb mostKinds m || ltb mostLines n
 

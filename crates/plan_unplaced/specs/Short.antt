@@ -32,7 +32,7 @@ onePlaced ids instances n id i = when (isPlaced ids instances n id i) 1
 unfoldable pub distinctPlaced : List ℕ → List ℕ → ℕ → ℕ → ℕ → ℕ
 distinctPlaced ids instances n id quantity = sumBelow (onePlaced ids instances n id) quantity
 
--- 01: "fewer distinct instances in range placed than its quantity"
+-- RULES: Unplaced list. A kind is short if fewer of its boxes are placed, each instance in range once, than its quantity
 unfoldable pub isShort : List ℕ → List ℕ → ℕ → ℕ → ℕ → Bool
 isShort ids instances n id quantity = ltb (distinctPlaced ids instances n id quantity) quantity
 
