@@ -1,4 +1,5 @@
--- The findings' words, the findings over a view, and columns that hold one.
+-- The findings' words, the findings over a view, columns that give one, and views that agree.
 pub mod Finding
 pub mod View
 pub mod Held
+pub mod Alike

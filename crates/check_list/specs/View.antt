@@ -3,7 +3,7 @@
 use Prim.Native.Nat.{ℕ}
 use mathlib.Core.Path.{_≡_, refl}
 use mathlib.Core.Bool.{Bool, true, false, cond, _&&_}
-use mathlib.Core.List.{List, _++_}
+use mathlib.Core.List.{List, _++_, append-assoc}
 use native.Mathlib.Omega.{arith}
 use lib.Dec.{ltb}
 use lib.ListN.{getD}
@@ -89,6 +89,18 @@ findingsOf v =
     ++ (massFound v
     ++ (allBelow (lostFound v) (v .many .kinds)
     ++ allBelow (wrongFound v) (v .many .unplaced))))
+
+-- ---- the same in two parts: the lines with their pairs, and what follows them
+
+unfoldable pub linesFound : View → List ℕ
+linesFound v = allBelow (lineFound v) (v .many .lines) ++ allBelow (pairsFound v) (v .many .lines)
+
+unfoldable pub restFound : View → List ℕ
+restFound v = massFound v ++ (allBelow (lostFound v) (v .many .kinds) ++ allBelow (wrongFound v) (v .many .unplaced))
+
+pub in-two : (v : View) → linesFound v ++ restFound v ≡ findingsOf v
+unfolding findingsOf linesFound restFound
+in-two v = append-assoc (allBelow (lineFound v) (v .many .lines)) (allBelow (pairsFound v) (v .many .lines)) _
 
 -- ---- counts over their bounds count for nothing
 

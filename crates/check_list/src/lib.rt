@@ -1,14 +1,30 @@
-// The findings on a load sheet, over its bytes and columns that were filled from them once. RULES: Findings: words
+// The findings on a load sheet, over its bytes and columns that were filled from them once: those of the lines and their pairs, then
+// those on the mass and the kinds. RULES: Findings: words
 ghost use mathlib.Core.Path.{_≡_};
-ghost use Rattle.check_words.specs.Wrote.{roomFor};
-ghost use Rattle.check_list.specs.View.{View, findingsOf, fair};
-ghost use Rattle.check_list.specs.Held.{Held, AllHeld, Ran};
+ghost use Prim.Native.Nat.{_+_, _*_, _/_};
+ghost use Rattle.check_list.specs.View.{linesFound, fair};
+ghost use Rattle.check_list.specs.Held.{ruleOf, viewIn, kindsIn, Ran, Followed};
 use measures::Container;
 use sheet::Counts;
 
+mod kind;
 mod line;
 mod pair;
-mod rest;
+
+// The corners of the lines' boxes: near x of all lines, near y, near z, then the same of the far corners.
+pub const CORNERS: usize = 6 * domain::MOST_LINES;
+
+// No finding on a line or a pair begins past so many cells: five words for each that there can be.
+const LINE_WORDS: usize = 5
+    * (6 * domain::MOST_LINES + domain::MOST_LINES * domain::MOST_LINES / 2);
+
+// What lines are judged by: how many kinds and lines there are, the container that they are in, and its tolerance.
+pub struct Rule {
+    pub kinds: usize,
+    pub lines: usize,
+    pub case: Container,
+    pub slack: f64,
+}
 
 // The counts, or none where one is over its bound.
 fn fair(many: Counts) -> Counts
@@ -24,43 +40,62 @@ fn fair(many: Counts) -> Counts
     many
 }
 
-// Lists the findings from the first cell on, as far as there are cells, and says how many words they are. Lines start at `start`
-// of the bytes; `which` and `listed` are the places of the kinds that the lines and the unplaced ids name; `again` tells the
-// repeated lines; the six columns of floats are the near and far corners of the boxes. Counts over their bounds count for nothing.
-pub fn list_findings(
+fn rule_of(counts: Counts, c: Container) -> Rule
+    ensures { λ r. ⌜ r ≡ ruleOf counts c ⌝ }
+{
+    let many = fair(counts);
+    let size = c.size;
+    Rule {
+        kinds: many.kinds,
+        lines: many.lines,
+        case: c,
+        slack: check_pair::tolerance(size),
+    }
+}
+
+// Lists the findings of the lines and then those of their pairs, from the first cell on as far as there are cells, and says how many
+// words they are. Lines start at `start` of the bytes; `which` are the places of the kinds that they name, `again` tells the repeated
+// ones, `boxes` are the corners of their boxes. Counts over their bounds count for nothing.
+pub fn line_findings(
     out: &mut [u64],
     f: &[u8],
     start: usize,
     counts: Counts,
     c: Container,
-    mass: f64,
     which: &[usize; domain::MOST_LINES],
     again: &[bool; domain::MOST_LINES],
-    x: &[f64; domain::MOST_LINES],
-    y: &[f64; domain::MOST_LINES],
-    z: &[f64; domain::MOST_LINES],
-    xx: &[f64; domain::MOST_LINES],
-    yy: &[f64; domain::MOST_LINES],
-    zz: &[f64; domain::MOST_LINES],
+    boxes: &[f64; CORNERS],
+) -> usize
+    ensures { λ r. ⌜ Ran (now (out .entry)) 0 (6 * fair counts .lines + fair counts .lines * fair counts .lines / 2)
+        (linesFound (viewIn (now (f .entry)) start (now (again .entry)) (ruleOf counts c) (now (which .entry)) (now (boxes .entry))))
+        r (now (out .exit)) ⌝ }
+{
+    let rule = rule_of(counts, c);
+    let p = line::put_lines(out, f, start, which, again, boxes, rule);
+    pair::put_pairs(out, p, which, boxes, rule)
+}
+
+// Lists the finding on the mass, then those of the kinds that are short and not listed as unplaced, from cell `at` on, and says where
+// they end.
+pub fn kind_findings(
+    out: &mut [u64],
+    at: usize,
+    counts: Counts,
+    c: Container,
+    mass: f64,
     ids: &[u32; domain::MOST_KINDS],
     short: &[bool; domain::MOST_KINDS],
-    left: &[u32; domain::MOST_UNPLACED],
-    listed: &[usize; domain::MOST_UNPLACED],
+    listed: &[bool; domain::MOST_KINDS],
 ) -> usize
-    ensures { λ r. ⌜ Ran (now (out .entry)) 0 (roomFor (fair counts .kinds) (fair counts .lines) (fair counts .unplaced))
-        (AllHeld counts c mass (now (f .entry)) start (now (which .entry)) (now (again .entry)) (now (x .entry)) (now (y .entry)) (now (z .entry))
-        (now (xx .entry)) (now (yy .entry)) (now (zz .entry))
-        (now (ids .entry)) (now (short .entry)) (now (left .entry)) (now (listed .entry))) findingsOf r (now (out .exit)) ⌝ }
+    ensures { λ r. ⌜ Followed (now (out .entry)) at (fair counts .kinds + 1)
+        (kindsIn (fair counts .kinds) c mass (now (ids .entry)) (now (short .entry)) (now (listed .entry))) r (now (out .exit)) ⌝ }
 {
+    if LINE_WORDS < at {
+        return at;
+    }
     let many = fair(counts);
     let size = c.size;
     let t = check_pair::tolerance(size);
-    let m = many.kinds;
-    let n = many.lines;
-    let u = many.unplaced;
-    let p = line::put_lines(out, f, start, which, again, x, y, z, xx, yy, zz, m, n, c, t);
-    let q = pair::put_pairs(out, p, which, x, y, z, xx, yy, zz, m, n, c, t);
-    let r = rest::put_mass(out, q, mass, c.limit, t);
-    let w = rest::put_missing(out, r, ids, short, m, left, listed, u);
-    rest::put_wrong(out, w, ids, short, m, left, listed, u)
+    let q = kind::put_mass(out, at, mass, c.limit, t);
+    kind::put_missing(out, q, ids, short, listed, many.kinds)
 }

@@ -7,8 +7,9 @@ ghost use Rattle.lists.specs.Below.{allBelow};
 ghost use Rattle.check_pair.specs.Tolerance.{toleranceOf};
 ghost use Rattle.check_words.specs.Wrote.{Wrote, mostWords};
 ghost use Rattle.check_list.specs.Finding.{nameWords, repeatWords, placeWords, insideOn, boxInside};
-ghost use Rattle.check_list.specs.View.{View, lineFound};
-ghost use Rattle.check_list.specs.Held.{OwnHeld, Ran};
+ghost use Rattle.check_list.specs.View.{lineFound};
+ghost use Rattle.check_list.specs.Held.{viewIn, Ran};
+use crate::Rule;
 use check_pair::Extent;
 use measures::Container;
 use measures::Kind;
@@ -78,38 +79,33 @@ fn put_place(
     check_words::put_if(out, q, outside, 6, line, id, 0, 0)
 }
 
-// What the first n lines get, one after the other, where there are m kinds.
+// What the lines get, one after the other.
 pub(crate) fn put_lines(
     out: &mut [u64],
     f: &[u8],
     start: usize,
     which: &[usize; domain::MOST_LINES],
     again: &[bool; domain::MOST_LINES],
-    x: &[f64; domain::MOST_LINES],
-    y: &[f64; domain::MOST_LINES],
-    z: &[f64; domain::MOST_LINES],
-    xx: &[f64; domain::MOST_LINES],
-    yy: &[f64; domain::MOST_LINES],
-    zz: &[f64; domain::MOST_LINES],
-    m: usize,
-    n: usize,
-    c: Container,
-    t: f64,
+    boxes: &[f64; crate::CORNERS],
+    rule: Rule,
 ) -> usize
-    requires { ⌜ (n ≤ mostLines) × (t ≡ toleranceOf (c .size)) ⌝ }
-    ensures { λ r. ⌜ Ran (now (out .entry)) 0 (6 * n)
-        (OwnHeld m n c (now (which .entry)) (now (x .entry)) (now (y .entry)) (now (z .entry)) (now (xx .entry)) (now (yy .entry)) (now (zz .entry))
-        (now (f .entry)) start (now (again .entry))) (λ (v : View). allBelow (lineFound v) n) r (now (out .exit)) ⌝ }
+    requires { ⌜ (rule .lines ≤ mostLines) × (rule .slack ≡ toleranceOf (rule .case .size)) ⌝ }
+    ensures { λ r. ⌜ Ran (now (out .entry)) 0 (6 * rule .lines)
+        (allBelow (lineFound (viewIn (now (f .entry)) start (now (again .entry)) rule (now (which .entry)) (now (boxes .entry)))) (rule .lines))
+        r (now (out .exit)) ⌝ }
 {
+    let m = rule.kinds;
+    let n = rule.lines;
+    let c = rule.case;
     let mut p = 0;
     let mut i = 0;
     while i < n {
         let l = file_read::records::line_in(f, start, i);
         let w = which[i];
         let k = file_read::records::kind_in(f, w);
-        let e = crate::pair::box_at(x, y, z, xx, yy, zz, i);
+        let e = crate::pair::box_at(boxes, i);
         let q = put_name(out, p, i, l, w < m, k, again[i]);
-        p = put_place(out, q, i, l, w < m, k, e, c, t);
+        p = put_place(out, q, i, l, w < m, k, e, c, rule.slack);
         i += 1;
     }
     p

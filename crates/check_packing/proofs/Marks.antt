@@ -28,7 +28,7 @@ use Rattle.check_packing.proofs.Packed.{of-kind}
 -- ---- one cell stored
 
 -- a cell stored as it was
-set-own : {A : Type 0} (l : List A) (i j : ℕ) (d : A) (v : A) → v ≡ getD l i d → getD (set l i v) j d ≡ getD l j d
+pub set-own : {A : Type 0} (l : List A) (i j : ℕ) (d : A) (v : A) → v ≡ getD l i d → getD (set l i v) j d ≡ getD l j d
 set-own l i j d v e =
     elim (decLt i (length l)) [
       | yes k ↦ go k (eqb j i) (eqb-true j i) (eqb-false j i)

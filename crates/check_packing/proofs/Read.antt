@@ -19,6 +19,7 @@ use Rattle.sheet.specs.Sheets.{kindAt, lineAt, unplacedAt, sheetRefusal}
 use Rattle.sheet.specs.Accepted.{Accepted, accepted, Few}
 use Rattle.file_read.specs.Form.{rightShape, countsOf}
 use Rattle.file_read.specs.Reading.{sheetOf, refusalOf}
+pub use Rattle.file_read.specs.Refusal.{sheet-sound}
 use Rattle.file_read.specs.Records.{kindIn, bounds, many-is, kind-is}
 use Rattle.file_accept.specs.Accept.{Taken}
 use Rattle.check_pair.specs.declared.Extent.{Extent}
@@ -26,10 +27,6 @@ use Rattle.check_packing.specs.Lines.{kindOf, known, kindFor, inRange, c
 use Rattle.check_packing.specs.Columns.{kindMany, placeBelow, Ids, kindNamed, boxRead}
 use Rattle.check_packing.proofs.Places.{place-kind}
 use Rattle.file_accept.specs.declared as taking
-
-pub sheet-sound : (f : List ℕ) → refusalOf f ≡ 0 → sheetRefusal (sheetOf f) ≡ 0
-unfolding refusalOf
-sheet-sound f h = or-else-second (when (not (rightShape f)) 1) (sheetRefusal (sheetOf f)) h
 
 module _ (f : List ℕ) (a : taking.Accepted.Accepted) (t : Taken f a) where
   pub sound : Accepted (sheetOf f)

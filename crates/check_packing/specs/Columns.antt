@@ -1,22 +1,27 @@
 -- What the columns hold that are filled from an accepted file: by kind, by line and by unplaced id.
-use Prim.Native.Nat.{ℕ, zero, suc, _+_, _<_}
+use Prim.Native.Nat.{ℕ, zero, suc, _+_, _*_, _/_, _<_}
 use mathlib.Core.Path.{_≡_}
-use mathlib.Core.Bool.{Bool, cond, _&&_}
-use mathlib.Core.List.{List}
+use mathlib.Core.Bool.{Bool, false, cond, _&&_}
+use mathlib.Core.List.{List, [], _∷_}
 use lib.Dec.{eqb, ltb}
-use lib.ListN.{getD}
+use lib.ListN.{length, getD, set}
 use lib.Ieee.{Float}
 use Rattle.floats.specs.Ops.{x, y, z}
+use Rattle.lists.specs.Below.{anyBelow, sumBelow, isAt}
+use Rattle.domain.specs.Bounds.{mostKinds, mostLines, mostBoxes}
 use Rattle.sheet.specs.declared.Sheet.{Sheet}
-use Rattle.lists.specs.Below.{sumBelow}
-use Rattle.domain.specs.Bounds.{mostBoxes}
-use Rattle.sheet.specs.Sheets.{kindAt, lineAt, unplacedAt, quantityOf}
+use Rattle.sheet.specs.declared.Counts.{Counts}
+use Rattle.sheet.specs.Sheets.{kindAt, lineAt, quantityOf}
 use Rattle.file_read.specs.Reading.{sheetOf}
 use Rattle.file_read.specs.Records.{kindIn}
 use Rattle.file_accept.specs.declared.Accepted.{Accepted}
 use Rattle.file_accept.specs.Accept.{Taken}
 use Rattle.check_pair.specs.declared.Extent.{Extent}
-use Rattle.check_packing.specs.Lines.{kindOf, boxOf}
+use Rattle.check_list.specs.View.{linesFound}
+use Rattle.check_list.specs.Held.{Ran}
+use Rattle.check_packing.specs.declared.Lined.{Lined}
+use Rattle.check_packing.specs.Lines.{kindOf, boxOf, packed, short, mass}
+use Rattle.check_packing.specs.Findings.{viewOf}
 
 -- ---- kinds: id and quantity
 
@@ -47,23 +52,19 @@ kindNamed s i = kindOf s (lineAt s i .id)
 unfoldable pub boxRead : List ℕ → ℕ → Extent
 boxRead f i = boxOf (lineAt (sheetOf f) i) (kindIn f (kindNamed (sheetOf f) i))
 
-unfoldable pub nearX : List ℕ → ℕ → Float
-nearX f i = x (boxRead f i .min)
+-- numbers put one into each column from a place on; the columns stand one behind the other
+unfoldable pub spread : List Float → ℕ → List Float → List Float
+spread o at [] = o
+spread o at (v ∷ vs) = spread (set o at v) (mostLines + at) vs
 
-unfoldable pub nearY : List ℕ → ℕ → Float
-nearY f i = y (boxRead f i .min)
+-- a box's corners put into row i of the six columns that `check_list: extentAt` reads
+unfoldable pub boxSet : List Float → ℕ → Extent → List Float
+boxSet o i e = spread o i (x (e .min) ∷ y (e .min) ∷ z (e .min) ∷ x (e .max) ∷ y (e .max) ∷ z (e .max) ∷ [])
 
-unfoldable pub nearZ : List ℕ → ℕ → Float
-nearZ f i = z (boxRead f i .min)
-
-unfoldable pub farX : List ℕ → ℕ → Float
-farX f i = x (boxRead f i .max)
-
-unfoldable pub farY : List ℕ → ℕ → Float
-farY f i = y (boxRead f i .max)
-
-unfoldable pub farZ : List ℕ → ℕ → Float
-farZ f i = z (boxRead f i .max)
+-- the boxes g 0, g 1, .. below n in the first rows
+unfoldable pub boxesFilled : List Float → (ℕ → Extent) → ℕ → List Float
+boxesFilled old g zero = old
+boxesFilled old g (suc n) = boxSet (boxesFilled old g n) n (g n)
 
 -- ---- marks: one for each box of the order
 
@@ -78,14 +79,31 @@ pub record MarksRead (f : List ℕ) (a : Accepted) (which many firsts : List ℕ
   pub many-is : (k : ℕ) → k < a .kinds → getD many k 0 ≡ kindMany (sheetOf f) k
   pub first-is : (k : ℕ) → k < a .kinds → getD firsts k 0 ≡ kindFirst (sheetOf f) k
 
--- ---- unplaced ids: the id, and the place of its kind
-
-unfoldable pub leftId : Sheet → ℕ → ℕ
-leftId s i = unplacedAt s i
-
-unfoldable pub kindListed : Sheet → ℕ → ℕ
-kindListed s i = kindOf s (unplacedAt s i)
-
 -- ---- fewer packed than there are, by the columns
 unfoldable pub shortIn : List ℕ → List ℕ → ℕ → Bool
 shortIn packed many k = ltb (getD packed k 0) (getD many k 0)
+
+-- ---- what the columns of kinds hold cell by cell: quantities, copies packed, which are short, which are listed by n unplaced ids
+
+abbrev pub Many : Sheet → ℕ → List ℕ → Type 0
+Many s m many = (k : ℕ) → k < m → getD many k 0 ≡ kindMany s k
+
+abbrev pub Packed : Sheet → ℕ → List ℕ → Type 0
+Packed s m sums = (k : ℕ) → k < m → getD sums k 0 ≡ packed s k
+
+abbrev pub Short : Sheet → ℕ → List Bool → Type 0
+Short s m shorts = (k : ℕ) → k < m → getD shorts k false ≡ short s k
+
+pub record Listed (s : Sheet) (n : ℕ) (listed : List Bool) : Type 0 where
+  pub long : length listed ≡ mostKinds
+  pub marks : (k : ℕ) → k < s .many .kinds → getD listed k false ≡ anyBelow (isAt (s .unplaced) (kindAt s k .id)) n
+
+-- ---- what stands when the lines are done
+
+abbrev pub countsOf : Accepted → Counts
+countsOf a = record { kinds = a .kinds; lines = a .lines; unplaced = a .unplaced }
+
+pub record LinesPut (s : Sheet) (o : List ℕ) (sums : List ℕ) (r : Lined) (o′ : List ℕ) : Type 0 where
+  pub put : Ran o 0 (6 * s .many .lines + s .many .lines * s .many .lines / 2) (linesFound (viewOf s)) (r .words) o′
+  pub mass-is : r .mass ≡ mass s
+  pub packed-are : Packed s (s .many .kinds) sums

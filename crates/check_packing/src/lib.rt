@@ -1,15 +1,23 @@
 // The checker: the findings on a load file, on its bytes. RULES: Findings: words
 ghost use mathlib.Core.Path.{_≡_};
-ghost use Prim.Native.Nat.{_*_, _≤_};
+ghost use Prim.Native.Nat.{_+_, _*_, _≤_};
+ghost use lib.ListN.{replicate};
 ghost use Rattle.check_words.specs.Wrote.{roomFor};
 ghost use Rattle.domain.specs.Bounds.{mostKinds, mostLines, mostUnplaced};
+ghost use Rattle.file_read.specs.Reading.{sheetOf};
 ghost use Rattle.file_accept.specs.Accept.{Taken};
+ghost use Rattle.check_list.specs.View.{restFound};
+ghost use Rattle.check_list.specs.Held.{Ran, mostLineWords};
+ghost use Rattle.check_packing.specs.Lines.{mass};
+ghost use Rattle.check_packing.specs.Findings.{viewOf, findings};
+ghost use Rattle.check_packing.specs.Columns.{Ids, Many, Packed, LinesPut, countsOf};
 ghost use Rattle.check_packing.specs.Check.{CheckedFile};
 use file_accept::Accepted;
 use file_read::records;
 use sheet::Counts;
 
 mod columns;
+mod left;
 
 // The refusal, 0 for none, and how many findings there are.
 pub struct Checked {
@@ -22,7 +30,91 @@ fn room(m: usize, n: usize, u: usize) -> usize
     requires { ⌜ (m ≤ mostKinds) × ((n ≤ mostLines) × (u ≤ mostUnplaced)) ⌝ }
     ensures { λ r. ⌜ r ≡ 5 * roomFor m n u ⌝ }
 {
-    5 * (6 * n + n * n + m + u + 1)
+    5 * (6 * n + n * n / 2 + m + u + 1)
+}
+
+// What the lines gave: the words written so far, and the mass.
+struct Lined {
+    words: usize,
+    mass: f64,
+}
+
+fn counts_of(a: Accepted) -> Counts
+    ensures { λ r. ⌜ r ≡ countsOf a ⌝ }
+{
+    Counts {
+        kinds: a.kinds,
+        lines: a.lines,
+        unplaced: a.unplaced,
+    }
+}
+
+// The findings of the lines and of their pairs, from the first cell on; and how many copies of each kind are packed. A sheet without
+// lines has none, and no column of lines is made for it.
+fn put_lines(
+    f: &[u8],
+    a: Accepted,
+    ids: &[u32; domain::MOST_KINDS],
+    many: &[u32; domain::MOST_KINDS],
+    packed: &mut [u32; domain::MOST_KINDS],
+    out: &mut [u64],
+) -> Lined
+    requires { ⌜ Taken (now f) a × (Ids (sheetOf (now f)) (a .kinds) (now ids) × (Many (sheetOf (now f)) (a .kinds) (now many)
+        × (now packed ≡ replicate mostKinds 0))) ⌝ }
+    ensures { λ r. ⌜ LinesPut (sheetOf (now (f .entry))) (now (out .entry)) (now (packed .exit)) r (now (out .exit)) ⌝ }
+{
+    if a.lines == 0 {
+        return Lined {
+            words: 0,
+            mass: 0.0,
+        };
+    }
+    let mut firsts = [0u32; domain::MOST_KINDS];
+    let mut which = [0usize; domain::MOST_LINES];
+    let mut again = [false; domain::MOST_LINES];
+    let mut boxes = [0.0; check_list::CORNERS];
+    columns::first_column(f, a, many, &mut firsts);
+    let mass = columns::line_columns(f, a, ids, &mut which, &mut boxes);
+    columns::mark_columns(f, a, &which, many, &firsts, &mut again, packed);
+    let c = records::container_in(f);
+    let words = check_list::line_findings(out, f, a.start, counts_of(a), c, &which, &again, &boxes);
+    Lined { words, mass }
+}
+
+// The findings on the mass and the unplaced list, behind those of the lines; and where they end.
+fn put_rest(
+    f: &[u8],
+    a: Accepted,
+    l: Lined,
+    ids: &[u32; domain::MOST_KINDS],
+    many: &[u32; domain::MOST_KINDS],
+    packed: &[u32; domain::MOST_KINDS],
+    out: &mut [u64],
+) -> usize
+    requires { ⌜ Taken (now f) a × (Ids (sheetOf (now f)) (a .kinds) (now ids) × (Many (sheetOf (now f)) (a .kinds) (now many)
+        × (Packed (sheetOf (now f)) (a .kinds) (now packed) × ((l .words ≤ mostLineWords) × (l .mass ≡ mass (sheetOf (now f))))))) ⌝ }
+    ensures { λ r. ⌜ Ran (now (out .entry)) (l .words) (a .kinds + 1 + a .unplaced) (restFound (viewOf (sheetOf (now (f .entry))))) r (now (out .exit)) ⌝ }
+{
+    let mut short = [false; domain::MOST_KINDS];
+    let mut listed = [false; domain::MOST_KINDS];
+    columns::short_column(a.kinds, many, packed, &mut short);
+    left::listed_column(f, a, ids, &mut listed);
+    let c = records::container_in(f);
+    let p = check_list::kind_findings(out, l.words, counts_of(a), c, l.mass, ids, &short, &listed);
+    left::put_wrong(f, a, ids, &short, out, p)
+}
+
+// All findings, from the first cell on as far as there are cells; and how many words they are.
+fn put_all(f: &[u8], a: Accepted, out: &mut [u64]) -> usize
+    requires { ⌜ Taken (now f) a ⌝ }
+    ensures { λ r. ⌜ Ran (now (out .entry)) 0 (roomFor (a .kinds) (a .lines) (a .unplaced)) (findings (sheetOf (now (f .entry)))) r (now (out .exit)) ⌝ }
+{
+    let mut ids = [0u32; domain::MOST_KINDS];
+    let mut many = [0u32; domain::MOST_KINDS];
+    let mut packed = [0u32; domain::MOST_KINDS];
+    columns::kind_columns(f, a, &mut ids, &mut many);
+    let l = put_lines(f, a, &ids, &many, &mut packed, out);
+    put_rest(f, a, l, &ids, &many, &packed, out)
 }
 
 // The findings on an accepted file. Where the room lent is enough whatever is found, they are written in one run; else they are
@@ -31,88 +123,15 @@ fn list(f: &[u8], a: Accepted, out: &mut [u64]) -> Checked
     requires { ⌜ Taken (now f) a ⌝ }
     ensures { λ r. ⌜ CheckedFile (now (f .entry)) (now (out .entry)) r (now (out .exit)) ⌝ }
 {
-    let mut ids = [0u32; domain::MOST_KINDS];
-    let mut many = [0u32; domain::MOST_KINDS];
-    let mut firsts = [0u32; domain::MOST_KINDS];
-    columns::kind_columns(f, a, &mut ids, &mut many, &mut firsts);
-    let mut which = [0usize; domain::MOST_LINES];
-    let mut x = [0.0; domain::MOST_LINES];
-    let mut y = [0.0; domain::MOST_LINES];
-    let mut z = [0.0; domain::MOST_LINES];
-    let mut xx = [0.0; domain::MOST_LINES];
-    let mut yy = [0.0; domain::MOST_LINES];
-    let mut zz = [0.0; domain::MOST_LINES];
-    let mass = columns::line_columns(
-        f,
-        a,
-        &ids,
-        &mut which,
-        &mut x,
-        &mut y,
-        &mut z,
-        &mut xx,
-        &mut yy,
-        &mut zz,
-    );
-    let mut again = [false; domain::MOST_LINES];
-    let mut short = [false; domain::MOST_KINDS];
-    columns::mark_columns(f, a, &which, &many, &firsts, &mut again, &mut short);
-    let mut left = [0u32; domain::MOST_UNPLACED];
-    let mut listed = [0usize; domain::MOST_UNPLACED];
-    columns::left_columns(f, a, &ids, &mut left, &mut listed);
-    let counts = Counts {
-        kinds: a.kinds,
-        lines: a.lines,
-        unplaced: a.unplaced,
-    };
-    let c = records::container_in(f);
     if room(a.kinds, a.lines, a.unplaced) <= out.len() {
-        let r = check_list::list_findings(
-            out,
-            f,
-            a.start,
-            counts,
-            c,
-            mass,
-            &which,
-            &again,
-            &x,
-            &y,
-            &z,
-            &xx,
-            &yy,
-            &zz,
-            &ids,
-            &short,
-            &left,
-            &listed,
-        );
+        let r = put_all(f, a, out);
         return Checked {
             refused: 0,
             count: r / 5,
         };
     }
     let mut none = [0u64; 1];
-    let n = check_list::list_findings(
-        &mut none,
-        f,
-        a.start,
-        counts,
-        c,
-        mass,
-        &which,
-        &again,
-        &x,
-        &y,
-        &z,
-        &xx,
-        &yy,
-        &zz,
-        &ids,
-        &short,
-        &left,
-        &listed,
-    );
+    let n = put_all(f, a, &mut none);
     if n == 0 {
         return Checked {
             refused: 0,
@@ -125,26 +144,7 @@ fn list(f: &[u8], a: Accepted, out: &mut [u64]) -> Checked
             count: n / 5,
         };
     }
-    check_list::list_findings(
-        out,
-        f,
-        a.start,
-        counts,
-        c,
-        mass,
-        &which,
-        &again,
-        &x,
-        &y,
-        &z,
-        &xx,
-        &yy,
-        &zz,
-        &ids,
-        &short,
-        &left,
-        &listed,
-    );
+    put_all(f, a, out);
     Checked {
         refused: 0,
         count: n / 5,

@@ -1,4 +1,4 @@
--- Two worked pairs, by computation, and the tolerance of 01's container.
+-- Two worked pairs, by computation, and the tolerance of the worked example's container.
 use mathlib.Core.Path.{_≡_, refl}
 use mathlib.Core.List.{List, [], _∷_}
 use Prim.Native.Nat.{ℕ}

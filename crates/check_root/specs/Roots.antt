@@ -1,7 +1,7 @@
 -- `root n` is the whole part of √n, and 2 * root n + rest n stands to every even number 2 * j as 2√n does.
 use mathlib.Core.Path.{_≡_, sym, ap, _∙_, subst}
 use Prim.Native.Nat.{ℕ, zero, suc, _+_, _-_, _*_, _/_, _^_, _≤_, _<_, zero-le}
-use native.Mathlib.Nat.{le-trans, le-of-lt, le-of-eq, lt-of-lt-of-le, lt-of-le-of-lt, le-antisymm, pow-suc}
+use native.Mathlib.Nat.{le-trans, le-of-lt, le-of-eq, lt-of-lt-of-le, lt-of-le-of-lt, le-antisymm, pow-suc, suc-mul, mul-suc}
 use lib.Pow.{pow-add}
 use native.Mathlib.Omega.{arith}
 use mathlib.Core.Bool.{Bool, true, false, not, cond}
@@ -183,6 +183,13 @@ mono n m h = go (ltb (root n * root n) n) (ltb→lt _ _) (nltb→le _ _)
 
 -- ---- the nearest whole number, known by its own square
 
+square-more : (k : ℕ) → (k + 1) * (k + 1) ≡ k * k + 2 * k + 1
+square-more k =
+    let i : k + 1 ≡ suc k = omega arith in
+    let a : suc k * suc k ≡ k * suc k + suc k = suc-mul k (suc k) in
+    let b : k * suc k ≡ k * k + k = mul-suc k k in
+    rw i (omega arith)
+
 pub near-is : (n k : ℕ) → k * k < n + k → n ≤ k * k + k → k ≡ nearRoot n
 near-is n zero l h = near-down n 0 0 (omega arith) (omega arith) (omega arith)
 near-is n (suc q) l h = go (leb (suc q * suc q) n) (leb→le _ _) (nleb→lt _ _)
@@ -196,6 +203,22 @@ near-is n (suc q) l h = go (leb (suc q * suc q) n) (leb→le _ _) (nleb→lt _ _
         let e : suc q ≡ q + 1 = omega arith in
         e ∙ near-up n q (n - q * q) (omega arith) (omega arith) (omega arith)
 
-pub near-by-square : (m k h t : ℕ) → h * 2 ^ 52 + t ≡ k * k → h ≤ m + 2 → t + 2 ^ 53 < (m + 2 - h) * 2 ^ 52 + k → (m + 2 - h) * 2 ^ 52 ≤ t + k + 2 ^ 53
-    → k ≡ nearRoot (m * 4 ^ 26)
-near-by-square m k h t e l a b = near-is (m * 4 ^ 26) k (omega arith) (omega arith)
+-- How far n lies from the square of k, as e is from t, tells whether k, the number above it or the one below is the nearest.
+module _ (n k e t : ℕ) (apart : n + t ≡ e + k * k) where
+  pub near-same : t < e + k → e ≤ t + k → k ≡ nearRoot n
+  near-same a b = near-is n k (omega arith) (omega arith)
+
+  pub near-above : t + k < e → e ≤ t + 3 * k + 2 → k + 1 ≡ nearRoot n
+  near-above a b = let s = square-more k in near-is n (k + 1) (omega arith) (omega arith)
+
+pub near-below : (n k e t : ℕ) → n + t ≡ e + k * k → 0 < k → t + 2 < e + 3 * k → e + k ≤ t → k - 1 ≡ nearRoot n
+near-below n zero e t apart p a b = absurd (omega arith)
+near-below n (suc j) e t apart p a b =
+    let i : suc j ≡ j + 1 = omega arith in
+    let s = rw (← i) at (square-more j) in
+    let d : suc j - 1 ≡ j = omega arith in
+    rw d (near-is n j (omega arith) (omega arith))
+
+-- the two digits of the square of k put these apart
+pub squares-apart : (m k h t : ℕ) → h * 2 ^ 52 + t ≡ k * k → h ≤ m + 2 → m * 4 ^ 26 + (t + 2 ^ 53) ≡ (m + 2 - h) * 2 ^ 52 + k * k
+squares-apart m k h t e l = omega arith

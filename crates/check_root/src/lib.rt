@@ -1,7 +1,7 @@
 // The correctly rounded square root of an `f64`, worked out in whole numbers: check.rs takes it of a sum of squares.
 ghost use mathlib.Core.Path.{_≡_};
 ghost use Prim.Native.Nat.{_+_, _*_, _^_, _<_, _≤_};
-ghost use mathlib.Core.Bool.{true};
+ghost use mathlib.Core.Bool.{cond};
 ghost use lib.Ieee.{binary64};
 ghost use Rattle.check_root.specs.Root.{nearRoot};
 ghost use Rattle.check_root.specs.Sqrt.{rounded, sqrtOf, mag};
@@ -139,52 +139,67 @@ fn squared(k: u64) -> Square
     }
 }
 
-// Whether k is the whole number nearest to the root of m * 2^52: k(k - 1) < m * 2^52 and m * 2^52 <= k(k + 1).
-fn is_near(m: u64, k: u64) -> bool
-    requires { ⌜ (m < 2 ^ 54) × ((0 < k) × (k ≤ 2 ^ 53)) ⌝ }
-    ensures { λ r. ⌜ (r ≡ true → k ≡ nearRoot (m * 4 ^ 26)) ⌝ }
+fn one_if(on: bool) -> u64
+    ensures { λ r. ⌜ (r ≡ cond on 1 0) × (r ≤ 1) ⌝ }
+{
+    if on { 1 } else { 0 }
+}
+
+// How k stands to the whole number nearest to the root of m * 2^52: 1 where it is that number, which is so where k(k - 1) < m * 2^52
+// and m * 2^52 <= k(k + 1); 0 and 2 where it is one more and one less; 3 where it is further off. No branch tells the first three apart.
+fn stands(m: u64, k: u64) -> u64
+    requires { ⌜ (m < 2 ^ 54) × ((1 < k) × (k < 2 ^ 53)) ⌝ }
+    ensures { λ r. ⌜ (r ≤ 3) × (r < 3 → k + r ≡ nearRoot (m * 4 ^ 26) + 1) ⌝ }
 {
     let s = squared(k);
     if m + 2 < s.h {
-        return false;
+        return 3;
     }
-    let d = m + 2 - s.h;
-    if 6 < d {
-        return false;
+    if s.h + 4 < m {
+        return 3;
     }
-    let e = d * 4503599627370496;
-    (s.t + 9007199254740992 < e + k) & (e <= s.t + k + 9007199254740992)
+    let e = (m + 2 - s.h) * 4503599627370496;
+    let t = s.t + 9007199254740992;
+    if e + 3 * k <= t + 2 {
+        return 3;
+    }
+    if t + 3 * k + 2 < e {
+        return 3;
+    }
+    1 + one_if(t + k < e) - one_if(e + k <= t)
 }
 
-// That number, where k is it; else it is worked out.
+// That number, where k is it or next to it; else it is worked out.
 fn near_by(m: u64, k: u64) -> u64
     requires { ⌜ (m < 2 ^ 54) × ((1 < k) × (k < 2 ^ 53)) ⌝ }
     ensures { λ r. ⌜ (r ≡ nearRoot (m * 4 ^ 26)) × (r ≤ 2 ^ 53) ⌝ }
 {
-    if is_near(m, k) {
-        return k;
+    let r = stands(m, k);
+    if 2 < r {
+        return near_root(m);
     }
-    if is_near(m, k + 1) {
-        return k + 1;
-    }
-    if is_near(m, k - 1) {
-        return k - 1;
-    }
-    near_root(m)
+    k + r - 1
 }
 
-// A number that is nearly always within one of it: three steps of Newton for 1 / root, one for the root.
+// A number that is nearly always within one of it. g and h come near the root and near half of 1 / root, both by the same factor at
+// each of three steps; then what is left of x is divided out.
 fn estimate(x: f64, b: u64) -> u64
     requires { ⌜ b < 2047 * 2 ^ 52 ⌝ }
     ensures { λ r. ⌜ (1 < r) × (r < 2 ^ 53) ⌝ }
 {
-    let y0 = floats::of_bits(6910469410427058089 - b / 2);
-    let h = 0.5 * x;
-    let y1 = y0 * (1.5 - h * y0 * y0);
-    let y2 = y1 * (1.5 - h * y1 * y1);
-    let y3 = y2 * (1.5 - h * y2 * y2);
-    let s = x * y3;
-    let q = floats::bits_of(0.5 * (s + x / s));
+    let y = floats::of_bits(6910469410427058089 - b / 2);
+    let g0 = x * y;
+    let h0 = 0.5 * y;
+    let f0 = 1.5 - g0 * h0;
+    let g1 = g0 * f0;
+    let h1 = h0 * f0;
+    let f1 = 1.5 - g1 * h1;
+    let g2 = g1 * f1;
+    let h2 = h1 * f1;
+    let f2 = 1.5 - g2 * h2;
+    let g = g2 * f2;
+    let h = h2 * f2;
+    let q = floats::bits_of(g + h * (x - g * g));
     q % 4503599627370496 + 4503599627370496
 }
 

@@ -26,6 +26,16 @@ wrote-then {o} {o₁} {o₂} {at} {m} {r} {ws} {vs} a b =
       cells = b .cells ∙ rw (a .cells, a .next) (sym (sets-append o at ws vs));
     }
 
+-- five cells stored one by one
+pub wrote-five : (o : List ℕ) (at a b c d e : ℕ)
+    → Wrote o at (a ∷ b ∷ c ∷ d ∷ e ∷ []) (at + 5) (set (set (set (set (set o at a) (at + 1) b) (at + 2) c) (at + 3) d) (at + 4) e)
+wrote-five o at a b c d e =
+    let p : at + 1 ≡ suc at = omega arith in
+    let q : at + 2 ≡ suc (suc at) = omega arith in
+    let r : at + 3 ≡ suc (suc (suc at)) = omega arith in
+    let s : at + 4 ≡ suc (suc (suc (suc at))) = omega arith in
+    record { next = refl; cells = rw (p, q, r, s) }
+
 -- one more turn of a loop
 pub wrote-more : (g : ℕ → List ℕ) (n : ℕ) {o o₁ o₂ : List ℕ} {at m r : ℕ}
     → Wrote o at (allBelow g n) m o₁ → Wrote o₁ m (g n) r o₂ → Wrote o at (allBelow g (n + 1)) r o₂

@@ -9,8 +9,8 @@ use check_pair::Extent;
 use measures::Kind;
 use sheet::Line;
 
-// A square of lines: as many as there are pairs, and more.
-const PAIRS: usize = domain::MOST_LINES * domain::MOST_LINES;
+// Half a square of lines: as many as there are pairs, and some more.
+const PAIRS: usize = domain::MOST_LINES * domain::MOST_LINES / 2;
 
 // No finding begins past so many cells: five words for each that there can be.
 const MOST_WORDS: usize = 5
@@ -28,10 +28,19 @@ fn put(out: &mut [u64], at: usize, w: u64) -> usize
     at + 1
 }
 
+// Where all five have a cell they are stored without a further test.
 fn put5(out: &mut [u64], at: usize, a: u64, b: u64, c: u64, d: u64, e: u64) -> usize
     requires { ⌜ at < mostWords ⌝ }
     ensures { λ r. ⌜ Wrote (now (out .entry)) at (a ∷ b ∷ c ∷ d ∷ e ∷ []) r (now (out .exit)) ⌝ }
 {
+    if at + 5 <= out.len() {
+        out[at] = a;
+        out[at + 1] = b;
+        out[at + 2] = c;
+        out[at + 3] = d;
+        out[at + 4] = e;
+        return at + 5;
+    }
     let p = put(out, at, a);
     let q = put(out, p, b);
     let r = put(out, q, c);

@@ -1,3 +1,3 @@
--- 01's measured examples.
+-- The measured examples.
 pub mod Parts
 pub mod Table

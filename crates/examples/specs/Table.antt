@@ -1,4 +1,4 @@
--- 01's measured examples marked P, and the worked one, as one table, and the one statement that proves them all: by computation over the
+-- The measured examples P1 to P9, and the worked one, as one table, and the one statement that proves them all: by computation over the
 -- definitions that the contracts name.
 use mathlib.Core.Path.{_≡_, refl}
 use mathlib.Core.Bool.{Bool, true, false}

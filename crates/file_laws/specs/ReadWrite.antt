@@ -19,6 +19,7 @@ use Rattle.file_bytes.specs.Layout.{fieldsAt}
 use Rattle.file_read.specs.Form.{blockFields, kindFields, lineFields, trailerFields, blockBytes, kindBytes, lineBytes, idBytes, trailerBytes}
 use Rattle.file_read.specs.Form.{trailer, trailerOf, linesStart, unplacedStart, trailerStart, rightShape, countsOf}
 use Rattle.file_read.specs.Reading.{containerOf, kindOf, lineOf, containerFrom, kindFrom, lineFrom, kindPlace, kindsOf, linesOf, idsOf, sheetOf, refusalOf}
+use Rattle.file_read.specs.Refusal.{sheet-sound}
 use Rattle.file_write.specs.Writing.{bitsOf, containerNumbers, kindNumbers, lineNumbers, trailerNumbers, containerOut, kindOut, lineOut, trailerOut}
 use Rattle.file_write.specs.Writing.{kindsOut, linesOut, idsOut, linesFrom, unplacedFrom, trailerFrom, fileOf}
 use Rattle.file_laws.specs.Parts.{Bytes, joined, part-all, number-below, bytes-number}
@@ -111,11 +112,6 @@ module _ (f : List ℕ) (bytes : Bytes f) where
 
 -- ---- the file
 
--- an accepted file's sheet is not refused
-pub sheet-accepted : (f : List ℕ) → refusalOf f ≡ 0 → sheetRefusal (sheetOf f) ≡ 0
-unfolding refusalOf
-sheet-accepted f h = or-else-second (when (not (rightShape f)) 1) _ h
-
 -- what is known of a file that is not refused
 pub record AcceptedFile (f : List ℕ) : Type 0 where
   pub shape : Shaped f
@@ -127,7 +123,7 @@ accepted-file f h =
     let wrong = not (rightShape f) in
     record {
       shape = shaped f (not-true-of (rightShape f) (when-none wrong 0 (or-else-first (when wrong 1) _ h)));
-      sheet = accepted (sheetOf f) (sheet-accepted f h);
+      sheet = accepted (sheetOf f) (sheet-sound f h);
     }
 
 -- a file's length, section by section

@@ -13,12 +13,13 @@ use Rattle.sheet.specs.Sheets.{sheetRefusal}
 use Rattle.sheet.specs.Accepted.{accepted}
 use Rattle.file_write.specs.declared.Written.{Written}
 use Rattle.file_read.specs.Reading.{sheetOf, refusalOf, readOf}
+use Rattle.file_read.specs.Refusal.{sheet-sound}
 use Rattle.file_write.specs.Writing.{fileOf, fileLength, writtenOf, bytesAfter}
 use Rattle.file_laws.specs.Parts.{Bytes}
 use Rattle.file_write.specs.Stores.{file-length-is}
 use Rattle.file_laws.specs.Typed.{Typed}
 use Rattle.file_laws.specs.Tidy.{tidy, Blank, tidy-blank}
-use Rattle.file_laws.specs.ReadWrite.{read-write, same-file, sheet-accepted}
+use Rattle.file_laws.specs.ReadWrite.{read-write, same-file}
 use Rattle.file_laws.specs.WriteRead.{write-read, write-accepted}
 
 -- ---- the calls where they accept
@@ -71,7 +72,7 @@ read-then-write f out bytes e room =
     let h : refusalOf f ≡ 0 = sym (refused-is f) ∙ e in
     let r = read-is f h in
     let same = read-write f bytes h in
-    let fine = sheet-accepted f h in
+    let fine = sheet-sound f h in
     let long : fileLength (s .many) ≡ length f = sym (file-length-is s) ∙ ap length same in
     let l : fileLength (s .many) ≤ length out = omega arith in
     record {

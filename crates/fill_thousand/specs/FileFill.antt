@@ -11,6 +11,7 @@ use Rattle.domain.specs.Laws.{or-else-second}
 use Rattle.sheet.specs.Sheets.{sheetRefusal}
 use Rattle.file_read.specs.Form.{rightShape}
 use Rattle.file_read.specs.Reading.{sheetOf, refusalOf}
+use Rattle.file_read.specs.Refusal.{sheet-sound}
 use Rattle.fill_thousand.specs.declared.Filled.{Filled}
 use Rattle.fill_thousand.specs.Fill.{uneven, unevenKind, fillRefusal, fillOf}
 use Rattle.fill_thousand.specs.FillLaws.{lengths-last}
@@ -27,10 +28,6 @@ unfolding fileFill
 file-filled f x e h = rw e h
 
 -- past the file's own refusal the lengths decide
-pub sheet-sound : (f : List ℕ) → refusalOf f ≡ 0 → sheetRefusal (sheetOf f) ≡ 0
-unfolding refusalOf
-sheet-sound f h = or-else-second (when (not (rightShape f)) 1) (sheetRefusal (sheetOf f)) h
-
 pub lengths-decide : (f : List ℕ) (b : Bool) → refusalOf f ≡ 0
     → b ≡ (uneven (sheetOf f .container .size) || anyBelow (unevenKind (sheetOf f .kinds)) (sheetOf f .many .kinds)) → when b 8 ≡ fillRefusal (sheetOf f)
 lengths-decide f b h e = rw e (lengths-last (sheetOf f) (sheet-sound f h))

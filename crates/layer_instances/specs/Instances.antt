@@ -17,7 +17,7 @@ use Rattle.sheet.specs.Sheets.{noKind, boxesIn, sheetRefusal}
 use Rattle.lists.specs.Rows.{wrote}
 use Rattle.file_read.specs.Form.{rightShape}
 use Rattle.file_read.specs.Reading.{sheetOf, refusalOf}
-use Rattle.file_read.specs.Refusal.{sheet-decides}
+use Rattle.file_read.specs.Refusal.{sheet-decides, sheet-sound}
 use Rattle.file_accept.specs.Accept.{readable}
 use Rattle.file_read.specs.Records.{Readable}
 use Rattle.layer_instances.specs.declared.Built.{Built}
@@ -68,10 +68,6 @@ three-sets o at a b c =
     let p1 : at + 1 ≡ suc at = omega arith in
     let p2 : at + 2 ≡ suc (suc at) = omega arith in
     rw (p1, p2)
-
--- the sheet of an accepted file is accepted
-pub sheet-sound : (f : List ℕ) → refusalOf f ≡ 0 → sheetRefusal (sheetOf f) ≡ 0
-sheet-sound f h = sym (sheet-decides f (readable f h .shape)) ∙ h
 
 -- ---- the answer and the words in each case, by the number n of the order's boxes
 

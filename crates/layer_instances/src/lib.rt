@@ -8,7 +8,7 @@ ghost use Rattle.lists.specs.Rows.{wrote};
 ghost use Rattle.lists.specs.Below.{anyBelow};
 ghost use Rattle.file_read.specs.Reading.{sheetOf};
 ghost use Rattle.layer_instances.specs.Records.{recordsIn, isStranger};
-ghost use Rattle.layer_instances.specs.Turns.{nextBox, boxesFrom, InFile};
+ghost use Rattle.plan_boxes.specs.Files.{InFile};
 ghost use Rattle.layer_instances.specs.Instances.{recordWords, answerOf, overNumber, Ended};
 use file_read::records;
 use plan_boxes::Instance;
@@ -58,48 +58,6 @@ pub fn over_number(f: &[u8]) -> u32
     1
 }
 
-// The box behind this one, of a kind that has so many: its next instance, or the first of the next kind. A kind that no order has is left as it is.
-pub fn next_box(u: Instance, quantity: u32) -> Instance
-    ensures { λ r. ⌜ r ≡ nextBox quantity u ⌝ }
-{
-    if u.kind >= domain::MOST_KINDS {
-        return u;
-    }
-    if (u.instance as u64) + 1 < quantity as u64 {
-        return Instance {
-            kind: u.kind,
-            instance: u.instance + 1,
-        };
-    }
-    Instance {
-        kind: u.kind + 1,
-        instance: 0,
-    }
-}
-
-fn wide(x: u32) -> u64
-    ensures { λ r. ⌜ (r ≡ x) × (r < 4294967296) ⌝ }
-{
-    x as u64
-}
-
-// The boxes of the first m kinds of a file, and 0 for more kinds than there can be. It cannot wrap: at most 64 numbers of 32 bits.
-pub fn boxes_of(f: &[u8], m: usize) -> u64
-    ensures { λ r. ⌜ r ≡ boxesFrom (now (f .entry)) m ⌝ }
-{
-    if m > domain::MOST_KINDS {
-        return 0;
-    }
-    let mut t: u64 = 0;
-    let mut k = 0;
-    while k < m {
-        let kind = records::kind_in(f, k);
-        t += wide(kind.quantity);
-        k += 1;
-    }
-    t
-}
-
 // One record's words, from `at` on.
 fn put_record(out: &mut [u32], at: usize, kind: u32, instance: u32, orientations: u32)
     requires { ⌜ at + 3 ≤ length (now out) ⌝ }
@@ -131,7 +89,7 @@ fn put_records(f: &[u8], out: &mut [u32], n: usize)
             u.instance,
             orientations as u32,
         );
-        u = next_box(u, kind.quantity);
+        u = plan_boxes::next_box(u, kind.quantity);
         t += 1;
     }
 }
@@ -148,7 +106,7 @@ pub fn build_instances(order: &[u8], slots: &mut [u32]) -> Built
             count: 0,
         };
     }
-    let n = boxes_of(order, a.kinds) as usize;
+    let n = plan_boxes::boxes_of(order, a.kinds) as usize;
     if slots.len() / RECORD < n {
         return answer(6, n);
     }

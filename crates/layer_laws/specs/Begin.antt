@@ -16,13 +16,11 @@ use Rattle.sheet.specs.Sheets.{noKind, noLine, sheetRefusal}
 use Rattle.layer_state.specs.declared.stand.Step.{Step}
 use Rattle.layer_fill.specs.declared.LayerFill.{LayerFill}
 use Rattle.layer_fill.specs.Fill.{empty, lineOf, took}
-use Rattle.plan_sheet.specs.declared.Plan.{Plan}
 use Rattle.plan_sheet.specs.Boxes.{smaller}
-use Rattle.plan_sheet.specs.Plans.{refusedPlan}
-use Rattle.layer_plan.specs.declared.offers.Offer.{Offer}
+use Rattle.plan_sheet.specs.Plans.{Plan, refusedPlan}
 use Rattle.lists.specs.Bools.{cond-keeps}
 use Rattle.layer_plan.specs.Run.{stepBy, offered, runFrom}
-use Rattle.layer_plan.specs.Offers.{bestOffer}
+use Rattle.layer_plan.specs.Offers.{Offer, bestOffer}
 use Rattle.layer_instances.specs.Instances.{total}
 use Rattle.layer_plan.specs.Fills.{layerFillOf}
 use Rattle.layer_laws.specs.Made.{fillTo, number, Made, fill-made}

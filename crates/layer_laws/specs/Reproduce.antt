@@ -28,11 +28,9 @@ use Rattle.layer_fill.specs.Fill.{empty, lineOf, pushed, took}
 use Rattle.layer_state.specs.Stand.{placeOf}
 use Rattle.layer_state.specs.Best.{placeBestOf}
 use Rattle.layer_state.specs.Again.{seedFor, some-turn, best-again}
-use Rattle.layer_plan.specs.declared.offers.Offer.{Offer}
-use Rattle.layer_plan.specs.declared.offers.Way.the-variants.{Turned}
 use Rattle.plan_boxes.specs.Turns.{turnOf, Right, turn-right, by-order}
 use Rattle.layer_plan.specs.Run.{offered, runFrom, run-few}
-use Rattle.layer_plan.specs.Offers.{bestOffer}
+use Rattle.layer_plan.specs.Offers.{Offer, turned, bestOffer}
 use Rattle.layer_plan.specs.Columns.{run-long}
 use Rattle.layer_fitness.specs.Fitness.{atLeastOne}
 use Rattle.plan_boxes.specs.Orders.{some-boxes}
@@ -191,7 +189,7 @@ seededOffer order n t =
     record {
       kind = turnOf (order .kinds) t .kind;
       instance = boxInstance (order .kinds) t;
-      way = Turned (seedIn order n t % atLeastOne (length (shareOf (kindOf (order .kinds) t .rule))));
+      way = turned (seedIn order n t % atLeastOne (length (shareOf (kindOf (order .kinds) t .rule))));
     }
 
 one-least : (n : ℕ) → 0 < n → atLeastOne n ≡ n

@@ -2,9 +2,9 @@
 -- sheet gives to that list, and the list placed in its own order and those orientations, with the same number considered. The plan is the fill's,
 -- bit for bit. With another number considered it need not be: boxes that the fill did not come to are then placed unrotated.
 use mathlib.Core.Path.{_≡_, refl, sym, _∙_, ap}
-use mathlib.Core.Bool.{Bool, false}
+use mathlib.Core.Bool.{false}
 use mathlib.Core.List.{List}
-use Prim.Native.Nat.{ℕ, zero, suc, _+_, _*_, _/_, _<_, _≤_}
+use Prim.Native.Nat.{ℕ, _+_, _*_, _/_, _<_, _≤_}
 use native.Mathlib.Nat.{le-refl}
 use native.Mathlib.Omega.{arith}
 use borrow.Author.Tests.{eq-eqb, lt-ltb, le-ltb, lt-leb}
@@ -20,12 +20,13 @@ use Rattle.layer_fill.specs.declared.LayerFill.{LayerFill}
 use Rattle.layer_fill.specs.Fill.{empty}
 use Rattle.plan_boxes.specs.Turns.{turnOf, Right, turn-right}
 use Rattle.plan_sheet.specs.Planned.{plannedSheet}
-use Rattle.plan_laws.specs.Accepted.{Taken, layers-accepted}
+use Rattle.plan_laws.specs.Accepted.{layers-accepted}
 use Rattle.lists.specs.Table.{filled-at}
 use Rattle.lists.specs.Rows.{wrote, wrote-at, wrote-length}
 use Rattle.layer_instances.specs.Records.{recordsIn, isStranger}
 use Rattle.plan_boxes.specs.Orders.{some-boxes, boxes-are}
-use Rattle.layer_plan.specs.Offers.{itemsIn, itemOffer, run-same}
+use Rattle.layer_plan.specs.Offers.{itemCount, itemOffer}
+use Rattle.layer_plan.specs.Run.{run-same}
 use Rattle.layer_plan.specs.Fills.{planFrom, layerFillOf, itemsRefusal, placeItemsOf, smaller-le}
 use Rattle.layer_instances.specs.Instances.{total, recordWords, buildRefusal, recordsAfter, three}
 use Rattle.layer_seeds.specs.Seeds.{seedOf, seedAt, seedRefusal, seedsAfter}
@@ -95,12 +96,12 @@ module _ (order : Sheet) (accept : sheetRefusal order ≡ 0) (records : List ℕ
   none-strange : anyBelow (isStranger records (order .many .kinds)) (recordsIn records) ≡ false
   none-strange = none-any (isStranger records (order .many .kinds)) (recordsIn records) no-stranger
 
-  no-refusal : (items : List ℕ) → itemsIn items ≡ total order → itemsRefusal order records items ≡ 0
+  no-refusal : (items : List ℕ) → itemCount items ≡ total order → itemsRefusal order records items ≡ 0
   unfolding itemsRefusal orElse
   no-refusal items few =
       let m = list .many in
       let f = list-few in
-      rw (le-ltb mostItems (itemsIn items) (omega arith), le-ltb mostInstances (recordsIn records) list-few, accept, none-strange)
+      rw (le-ltb mostItems (itemCount items) (omega arith), le-ltb mostInstances (recordsIn records) list-few, accept, none-strange)
 
   -- a sheet of the same kinds that is accepted, and a cell for each record
   no-seed-refusal : (s : Sheet) (room : ℕ) → sheetRefusal s ≡ 0 → s .many .kinds ≡ order .many .kinds → total order ≤ room
@@ -113,7 +114,7 @@ module _ (order : Sheet) (accept : sheetRefusal order ≡ 0) (records : List ℕ
 -- ---- the items
 -- item j names record j, and the orientation that the seeds say of it
 pub record AreItems (order : Sheet) (seeds items : List ℕ) : Type 0 where
-  pub many : itemsIn items ≡ total order
+  pub many : itemCount items ≡ total order
   pub place-at : (j : ℕ) → j < total order → getD items (j * 2) 0 ≡ j
   pub turn-at : (j : ℕ) → j < total order → getD items (j * 2 + 1) 0 ≡ getD seeds j 0
 

@@ -7,7 +7,6 @@ use native.Mathlib.Numerals.{add-one}
 use native.Mathlib.Omega.{arith}
 use lib.ListN.{length, getD, set, length-set}
 use lib.Seq.{getD-set-same, getD-set-other}
-use lib.Ieee.{Float}
 use Rattle.floats.specs.Ops.{x, y, z}
 use Rattle.lists.specs.Table.{filled, filled-same}
 use Rattle.lists.specs.Bools.{cond-keeps}
@@ -22,7 +21,7 @@ use Rattle.layer_state.specs.Stand.{noStep}
 use Rattle.layer_fill.specs.declared.LayerFill.{LayerFill}
 use Rattle.layer_fill.specs.Fill.{noLines, empty, lineOf, pushed, took}
 use Rattle.sheet.specs.Columns.{Columns, idOf, instanceOf, orientationOf, xOf, yOf, zOf}
-use Rattle.layer_plan.specs.declared.offers.Offer.{Offer}
+use Rattle.layer_plan.specs.Offers.{Offer}
 use Rattle.layer_plan.specs.Run.{stepBy, offered, runFrom, countAfter}
 
 -- ---- the same of a fill while it grows
@@ -129,22 +128,25 @@ pub record Holds (f : LayerFill) (stand : Stand) (count : ℕ) (old new : Column
   pub count-is : count ≡ f .count
   pub columns-are : new ≡ shownIn old f
 
--- a box more
-pub holds-more : (f : LayerFill) (s : Step) (id instance count : ℕ) (old new : Columns) → length (f .lines) ≡ mostBoxes → f .count < mostBoxes
-    → (s .fits ≡ false → s ≡ noStep (f .stand)) → count ≡ countAfter (s .fits) (f .count) → new ≡ putIn s id instance (f .count) (shownIn old f)
-    → Holds (took f s id instance) (s .next) count old new
-holds-more f s id instance count old new long room stays n c =
-    record {
-      stand-is = took-stand f s id instance stays;
-      count-is = n ∙ took-count f s id instance;
-      columns-are = c ∙ shown-more old f s id instance long room;
-    }
-
 -- what the step of one box ends with: the count, and the columns
 pub record Puts (s : Step) (id instance n r : ℕ) (old new : Columns) : Type 0 where
   pub count-is : r ≡ countAfter (s .fits) n
   pub few : r ≤ n + 1
   pub columns-are : new ≡ putIn s id instance n old
+
+-- a box more
+pub holds-more : (f : LayerFill) (stand : Stand) (s : Step) (id instance count r : ℕ) (old between new : Columns) → length (f .lines) ≡ mostBoxes
+    → count < mostBoxes → (s .fits ≡ false → s ≡ noStep (f .stand)) → Holds f stand count old between → Puts s id instance count r between new
+    → Holds (took f s id instance) (s .next) r old new
+holds-more f stand s id instance count r old between new long room stays h p =
+    let n = h .count-is in
+    let put : new ≡ putIn s id instance (f .count) (shownIn old f) =
+    p .columns-are ∙ ap (λ (m : ℕ). putIn s id instance m between) n ∙ ap (putIn s id instance (f .count)) (h .columns-are) in
+    record {
+      stand-is = took-stand f s id instance stays;
+      count-is = p .count-is ∙ ap (countAfter (s .fits)) n ∙ took-count f s id instance;
+      columns-are = put ∙ shown-more old f s id instance long (omega arith);
+    }
 
 -- ---- the store of lines keeps its length
 pub run-long : (b : Container) (kinds : List Kind) (offer : ℕ → Offer) (n : ℕ) → length (runFrom (empty b) kinds offer n .lines) ≡ mostBoxes

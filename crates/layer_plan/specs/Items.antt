@@ -2,45 +2,44 @@
 use mathlib.Core.Path.{_≡_, refl, sym, _∙_, ap}
 use mathlib.Core.Bool.{Bool, true, false, cond, _||_}
 use mathlib.Core.List.{List}
-use Prim.Native.Nat.{ℕ, zero, suc, _+_, _*_, _%_, _<_, _≤_}
+use Prim.Native.Nat.{ℕ, zero, suc, _*_, _<_, _≤_}
 use native.Mathlib.Omega.{arith}
-use borrow.Author.Tests.{eq-eqb, ne-eqb, lt-ltb, le-ltb, ltb-false}
-use lib.Dec.{eqb, ltb}
+use borrow.Author.Tests.{ne-eqb, ltb-false}
+use lib.Dec.{ltb}
 use lib.ListN.{length, getD}
 use Rattle.domain.specs.Bounds.{mostBoxes, mostItems, mostInstances}
-use Rattle.domain.specs.Refusals.{when, orElse}
-use Rattle.lists.specs.Bools.{or-left, or-right}
+use Rattle.domain.specs.Refusals.{orElse}
+use Rattle.lists.specs.Bools.{or-left}
 use Rattle.lists.specs.Below.{anyBelow, any-none}
 use Rattle.measures.specs.declared.Kind.{Kind}
 use Rattle.sheet.specs.declared.Sheet.{Sheet}
 use Rattle.sheet.specs.Sheets.{noKind, sheetRefusal}
-use Rattle.sheet.specs.Accepted.{Accepted, accepted}
+use Rattle.sheet.specs.Accepted.{accepted}
 use Rattle.file_read.specs.Form.{rightShape, countsOf}
 use Rattle.file_read.specs.Reading.{sheetOf, refusalOf}
-use Rattle.file_read.specs.Refusal.{shape-refused, sheet-decides}
+use Rattle.file_read.specs.Refusal.{shape-refused, sheet-decides, sheet-sound}
 use Rattle.file_read.specs.Records.{Readable}
-use Rattle.plan_sheet.specs.declared.Plan.{Plan}
 use Rattle.plan_sheet.specs.Boxes.{smaller, smaller-le}
-use Rattle.plan_sheet.specs.Plans.{refusedPlan}
+use Rattle.plan_sheet.specs.Plans.{Plan, refusedPlan}
 use Rattle.layer_state.specs.declared.stand.Stand.{Stand}
 use Rattle.layer_state.specs.declared.stand.Step.{Step}
 use Rattle.layer_state.specs.Stand.{noStep, placeOf, place-stays}
 use Rattle.layer_fill.specs.declared.LayerFill.{LayerFill}
 use Rattle.layer_fill.specs.Fill.{empty, took}
 use Rattle.layer_instances.specs.Records.{recordsIn, isStranger, stranger-not}
-use Rattle.layer_instances.specs.Instances.{overNumber, sheet-sound}
-use Rattle.layer_plan.specs.declared.offers.Offer.{Offer}
-use Rattle.layer_plan.specs.declared.offers.Way.the-variants.{Turned}
-use Rattle.layer_plan.specs.Run.{noOffer, stepBy, offered, runBy, run-few}
-use Rattle.layer_plan.specs.Offers as Offers
-use Rattle.layer_plan.specs.Offers.{itemOffer}
-use Rattle.layer_plan.specs.Fills.{planFrom, itemsRefusal, placeItemsOf}
+use Rattle.layer_instances.specs.Instances.{overNumber}
+use Rattle.layer_plan.specs.Run.{offered, runBy, run-few}
+use Rattle.layer_plan.specs.Offers.{Offer, turned, noOffer, itemOffer, itemCount}
+use Rattle.layer_plan.specs.Fills.{itemsRefusal, placeItemsOf}
 use Rattle.layer_plan.specs.Laid.{Made, plan-made}
-pub use Rattle.layer_plan.specs.Laid.{refusedTold}
 
 -- the plan of items of the order in a load file: 1 for its shape, or the plan of the order that its bytes mean
 unfoldable pub itemsIn : List ℕ → List ℕ → List ℕ → ℕ → Plan
 itemsIn f records items consider = cond (rightShape f) (placeItemsOf (sheetOf f) records items consider) (refusedPlan 1)
+
+-- the fill over its first n items
+abbrev pub fillOver : Sheet → List ℕ → List ℕ → ℕ → LayerFill
+fillOver s records items n = runBy (s .container) (s .kinds) (itemOffer records items) n
 
 -- ---- one item
 
@@ -50,7 +49,7 @@ pub record Tries (s : Stand) (kinds : List Kind) (o : Offer) (step : Step) (id i
   pub took-is : (f : LayerFill) → f .stand ≡ s → took f step id instance ≡ offered f kinds o
 
 pub tries-turned : (s : Stand) (kinds : List Kind) (k : Kind) (i instance turn : ℕ) (o : Offer)
-    → o ≡ record { kind = i; instance = instance; way = Turned turn } → k ≡ getD kinds i noKind → Tries s kinds o (placeOf s k turn) (k .id) instance
+    → o ≡ record { kind = i; instance = instance; way = turned turn } → k ≡ getD kinds i noKind → Tries s kinds o (placeOf s k turn) (k .id) instance
 unfolding offered
 tries-turned s kinds k i instance turn o e d =
     record { stays = place-stays s k turn; took-is = λ f q. rw (e, d, q) }
@@ -66,10 +65,10 @@ pub record Fit (f records items : List ℕ) (n : ℕ) : Type 0 where
   pub whole : n * 2 ≤ length items
   pub of-kind : (p : ℕ) → p < recordsIn records → getD records (p * 3) 0 < countsOf f .kinds
 
-pub fit : (f records items : List ℕ) (consider m : ℕ) → Readable f → Offers.itemsIn items ≤ mostItems → m ≡ countsOf f .kinds
-    → anyBelow (isStranger records m) (recordsIn records) ≡ false → Fit f records items (smaller consider (Offers.itemsIn items))
+pub fit : (f records items : List ℕ) (consider m : ℕ) → Readable f → itemCount items ≤ mostItems → m ≡ countsOf f .kinds
+    → anyBelow (isStranger records m) (recordsIn records) ≡ false → Fit f records items (smaller consider (itemCount items))
 fit f records items consider m r few e known =
-    let l = smaller-le consider (Offers.itemsIn items) in
+    let l = smaller-le consider (itemCount items) in
     record {
       can-read = r;
       few = omega arith;
@@ -90,7 +89,7 @@ planned-wrong f records items consider shape = rw shape
 
 -- too many items or records
 abbrev pub over : List ℕ → List ℕ → Bool
-over records items = ltb mostItems (Offers.itemsIn items) || ltb mostInstances (recordsIn records)
+over records items = ltb mostItems (itemCount items) || ltb mostInstances (recordsIn records)
 
 pub items-over : (f records items : List ℕ) (consider : ℕ) → over records items ≡ true → itemsIn f records items consider ≡ refusedPlan (overNumber f)
 unfolding overNumber itemsRefusal orElse
@@ -122,15 +121,15 @@ module _ (f records items : List ℕ) (consider : ℕ) (few : over records items
 
     pub items-made : anyBelow (isStranger records (sheetOf f .many .kinds)) (recordsIn records) ≡ false
         → Made (itemsIn f records items consider)
-        (runBy (sheetOf f .container) (sheetOf f .kinds) (itemOffer records items) (smaller consider (Offers.itemsIn items)))
-        (smaller consider (Offers.itemsIn items))
+        (fillOver (sheetOf f) records items (smaller consider (itemCount items)))
+        (smaller consider (itemCount items))
     unfolding itemsIn placeItemsOf itemsRefusal orElse
     items-made s =
         let o = sheetOf f in
-        let n = smaller consider (Offers.itemsIn items) in
+        let n = smaller consider (itemCount items) in
         let a = accepted o (sheet-sound f z) in
-        let l = smaller-le consider (Offers.itemsIn items) in
-        let m = ltb-false mostItems (Offers.itemsIn items) (or-left (ltb mostItems (Offers.itemsIn items)) _ few) in
+        let l = smaller-le consider (itemCount items) in
+        let m = ltb-false mostItems (itemCount items) (or-left (ltb mostItems (itemCount items)) _ few) in
         let c = run-few (empty (o .container)) (o .kinds) (itemOffer records items) n in
         rw (shape, few, sheet-sound f z, s)
-        (plan-made (o .kinds) (o .many .kinds) (runBy (o .container) (o .kinds) (itemOffer records items) n) n (a .few-of .kinds) (omega arith))
+        (plan-made (o .kinds) (o .many .kinds) (fillOver o records items n) n (a .few-of .kinds) (omega arith))

@@ -1,64 +1,49 @@
 -- RULES: Plans. What the plan of a fill holds, and how a call that lays it into columns ends.
-use mathlib.Core.Path.{_≡_, refl, sym, _∙_, ap}
-use mathlib.Core.Bool.{Bool, true, false, cond}
+use mathlib.Core.Path.{_≡_, sym, _∙_}
 use mathlib.Core.List.{List}
-use Prim.Native.Nat.{ℕ, zero, suc, _≤_}
+use Prim.Native.Nat.{ℕ, _≤_}
 use native.Mathlib.Omega.{arith}
 use borrow.Author.Tests.{eq-eqb, ne-eqb, le-ltb}
-use lib.Dec.{eqb}
-use lib.ListN.{getD}
-use lib.Ieee.{Float}
-use Rattle.floats.specs.Ops.{none}
-use Rattle.lists.specs.Table.{filled}
 use Rattle.domain.specs.Bounds.{mostKinds, mostLines}
-use Rattle.measures.specs.declared.Container.{Container}
 use Rattle.measures.specs.declared.Kind.{Kind}
 use Rattle.sheet.specs.declared.Line.{Line}
 use Rattle.sheet.specs.declared.Sheet.{Sheet}
-use Rattle.sheet.specs.Sheets.{noKind, sheetRefusal}
-use Rattle.sheet.specs.Accepted.{Accepted, accepted}
-use Rattle.file_read.specs.Form.{rightShape}
+use Rattle.sheet.specs.Sheets.{sheetRefusal}
+use Rattle.sheet.specs.Accepted.{accepted}
 use Rattle.file_read.specs.Reading.{sheetOf, refusalOf}
-use Rattle.plan_unplaced.specs.declared.Left.{Left}
-use Rattle.plan_unplaced.specs.Left.{pushIf, leftAfter, leftOf}
-use Rattle.plan_sheet.specs.declared.Plan.{Plan}
+use Rattle.file_read.specs.Refusal.{sheet-sound}
+use Rattle.plan_unplaced.specs.Left.{leftOf, left-fair}
 use Rattle.plan_sheet.specs.declared.Told.{Told}
 use Rattle.plan_sheet.specs.Boxes.{smaller}
-use Rattle.plan_sheet.specs.Plans.{refusedPlan, leftBy, plannedOf}
+use Rattle.plan_sheet.specs.Plans.{Plan, refusedPlan, leftBy, plannedOf}
 use Rattle.plan_sheet.specs.Laid.{planIn, toldOf, laid}
 use Rattle.layer_state.specs.declared.stand.Stand.{Stand}
 use Rattle.layer_state.specs.Stand.{fillOf}
 use Rattle.layer_fill.specs.declared.LayerFill.{LayerFill}
 use Rattle.layer_fill.specs.Fill.{empty}
-use Rattle.layer_instances.specs.Instances.{total, sheet-sound}
+use Rattle.layer_instances.specs.Instances.{total}
 use Rattle.layer_plan.specs.Run.{runBy, run-few}
 use Rattle.layer_plan.specs.Offers.{bestOffer}
-use Rattle.layer_plan.specs.Fills.{planFrom, layerFillOf, turns-right}
+use Rattle.layer_plan.specs.Fills.{planFrom, layerFillOf, turns-few}
 use Rattle.sheet.specs.Columns.{Columns}
-use Rattle.plan_sheet.specs.Laid.{laidIn, Lays}
-use Rattle.layer_plan.specs.Columns.{column, Holds}
+use Rattle.plan_sheet.specs.Laid.{Lays}
+use Rattle.layer_plan.specs.Columns.{column, shownIn, Holds}
 
 -- ---- the plan of a fill
 
+-- what is told of a fill that n boxes were considered for
+abbrev pub toldBy : LayerFill → ℕ → Told
+toldBy f n = record { refused = 0; considered = n; placed = f .count; utilization = fillOf (f .stand) }
+
 pub record Made (p : Plan) (f : LayerFill) (n : ℕ) : Type 0 where
-  pub told-is : toldOf p ≡ record { refused = 0; considered = n; placed = f .count; utilization = fillOf (f .stand) }
+  pub told-is : toldOf p ≡ toldBy f n
   pub lines-are : p .lines ≡ f .lines
   pub placed-are : p .placed ≡ f .count
-
-push-none : (b : Bool) (id : ℕ) (l : Left) → l .refused ≡ 0 → pushIf b id l .refused ≡ 0
-unfolding pushIf
-push-none true id l h = h
-push-none false id l h = h
-
-left-none : (kinds : List Kind) (flags : List Bool) (m : ℕ) → leftAfter kinds flags m .refused ≡ 0
-unfolding leftAfter
-left-none kinds flags zero = refl
-left-none kinds flags (suc m) = push-none (getD flags m false) (getD kinds m noKind .id) (leftAfter kinds flags m) (left-none kinds flags m)
 
 left-accepted : (kinds : List Kind) (m : ℕ) (ids instances : List ℕ) (n : ℕ) → m ≤ mostKinds → n ≤ mostLines
     → leftOf kinds m ids instances n .refused ≡ 0
 unfolding leftOf
-left-accepted kinds m ids instances n a b = rw (le-ltb mostKinds m a, le-ltb mostLines n b) (left-none kinds _ m)
+left-accepted kinds m ids instances n a b = rw (le-ltb mostKinds m a, le-ltb mostLines n b) (left-fair kinds _ m)
 
 pub plan-made : (kinds : List Kind) (m : ℕ) (f : LayerFill) (n : ℕ) → m ≤ mostKinds → f .count ≤ mostLines → Made (planFrom kinds m f n) f n
 unfolding planFrom plannedOf
@@ -68,24 +53,24 @@ plan-made kinds m f n a b =
 
 -- ---- how a call ends
 
--- nothing but the refusal, and the columns as they were
-abbrev pub refusedTold : ℕ → Told
-refusedTold r = record { refused = r; considered = 0; placed = 0; utilization = none }
-
-pub lays-refused : (p : Plan) (r : ℕ) (old : Columns) → p ≡ refusedPlan r → Lays p (refusedTold r) old old
-unfolding refusedPlan laid filled
-lays-refused p r old e = rw e (record { told-is = refl; columns-are = refl })
-
 -- one column of a plan is that of its fill
 laid-is : {A : Type 0} (part : Line → A) (old : List A) (p : Plan) (f : LayerFill) (n : ℕ) → Made p f n → column part old f ≡ laid part old p
 unfolding laid column
 laid-is part old p f n m = rw (m .lines-are, m .placed-are)
 
-pub lays-made : (p : Plan) (f : LayerFill) (n : ℕ) (stand : Stand) (count : ℕ) (old new : Columns) → Made p f n → Holds f stand count old new
-    → Lays p (record { refused = 0; considered = n; placed = count; utilization = fillOf stand }) old new
-lays-made p f n stand count old new m h =
+-- a fill told of, its lines in the columns
+pub record Shows (f : LayerFill) (n : ℕ) (r : Told) (old new : Columns) : Type 0 where
+  pub told-is : r ≡ toldBy f n
+  pub columns-are : new ≡ shownIn old f
+
+pub shows : (f : LayerFill) (n : ℕ) (stand : Stand) (count : ℕ) (old new : Columns) → Holds f stand count old new
+    → Shows f n (record { refused = 0; considered = n; placed = count; utilization = fillOf stand }) old new
+shows f n stand count old new h = record { told-is = rw (h .stand-is, h .count-is); columns-are = h .columns-are }
+
+pub lays-made : (p : Plan) (f : LayerFill) (n : ℕ) (r : Told) (old new : Columns) → Made p f n → Shows f n r old new → Lays p r old new
+lays-made p f n r old new m h =
     record {
-      told-is = rw (h .stand-is, h .count-is) (sym (m .told-is));
+      told-is = h .told-is ∙ sym (m .told-is);
       columns-are =
           h .columns-are
           ∙ rw (
@@ -100,10 +85,6 @@ lays-made p f n stand count old new m h =
 
 -- ---- the order in a load file
 
-pub refused-in : (f : List ℕ) (consider r : ℕ) → r ≡ refusalOf f → (r ≡ 0 → ⊥) → planIn layerFillOf f consider ≡ refusedPlan r
-unfolding planIn
-refused-in f consider r e n = rw e (rw (ne-eqb (refusalOf f) 0 (rw e at n)))
-
 -- the fill over n boxes
 abbrev pub fillBy : Sheet → ℕ → LayerFill
 fillBy s n = runBy (s .container) (s .kinds) (bestOffer (s .kinds)) n
@@ -115,7 +96,7 @@ filled-in f consider z =
     let s = sheetOf f in
     let n = smaller consider (total s) in
     let a = accepted s (sheet-sound f z) in
-    let few = turns-right s a consider .few in
+    let few = turns-few s a consider in
     let c = run-few (empty (s .container)) (s .kinds) (bestOffer (s .kinds)) n in
     rw (eq-eqb (refusalOf f) 0 z, eq-eqb (sheetRefusal s) 0 (sheet-sound f z))
     (plan-made (s .kinds) (s .many .kinds) (fillBy s n) n (a .few-of .kinds) (omega arith))

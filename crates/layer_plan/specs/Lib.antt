@@ -1,7 +1,6 @@
--- The layer placer's runs over an order and over given items.
-pub mod Turns
-pub mod Run
+-- The layer placer's plan of an order and of given items, and the columns that it is laid in.
 pub mod Offers
+pub mod Run
 pub mod Fills
 pub mod Columns
 pub mod Laid

@@ -1,23 +1,22 @@
 // Given items of a load file's order, in the given order and orientations, each an instance of a given list.
-ghost use mathlib.Core.Path.{_≡_};
 ghost use Prim.Native.Nat.{_<_};
 ghost use Rattle.file_read.specs.Reading.{sheetOf};
-ghost use Rattle.layer_plan.specs.Run.{runBy};
 ghost use Rattle.layer_plan.specs.Offers.{itemOffer};
 ghost use Rattle.sheet.specs.Columns.{columns};
 ghost use Rattle.plan_sheet.specs.Laid.{Lays};
-ghost use Rattle.layer_plan.specs.Columns.{Holds};
-ghost use Rattle.layer_plan.specs.Items.{Fit, Tries, itemsIn, refusedTold};
-use crate::lay::Laid;
+ghost use Rattle.layer_plan.specs.Laid.{Shows};
+ghost use Rattle.layer_plan.specs.Items.{Fit, Tries, fillOver, itemsIn};
 use crate::lay::put_line;
-use crate::offers::ITEM;
 use file_read::records;
 use layer_fitness::at_least_one;
 use layer_instances::RECORD;
 use layer_state::Stand;
 use layer_state::Step;
-use measures::Container;
 use plan_sheet::Told;
+use plan_sheet::refused_told;
+
+// Words of an item: place in the records, orientation.
+const ITEM: usize = 2;
 
 // What an item comes to: its step, and the id and instance of its line, where it has one.
 struct Tried {
@@ -58,7 +57,6 @@ fn try_item(f: &[u8], stand: Stand, records: &[u32], items: &[u32], n: usize, j:
 // The first n items into the columns.
 fn lay_each(
     f: &[u8],
-    container: Container,
     records: &[u32],
     items: &[u32],
     n: usize,
@@ -68,45 +66,29 @@ fn lay_each(
     xs: &mut [f64; domain::MOST_LINES],
     ys: &mut [f64; domain::MOST_LINES],
     zs: &mut [f64; domain::MOST_LINES],
-) -> Laid
+) -> Told
     requires { ⌜ Fit (now f) (now records) (now items) n ⌝ }
-    ensures { λ r. ⌜ Holds (runBy container (sheetOf (now (f .entry)) .kinds) (itemOffer (now (records .entry)) (now (items .entry))) n) (r .stand) (r .count)
+    ensures { λ r. ⌜ Shows (fillOver (sheetOf (now (f .entry))) (now (records .entry)) (now (items .entry)) n) n r
         (columns (now (ids .entry)) (now (instances .entry)) (now (turns .entry)) (now (xs .entry)) (now (ys .entry)) (now (zs .entry)))
         (columns (now (ids .exit)) (now (instances .exit)) (now (turns .exit)) (now (xs .exit)) (now (ys .exit)) (now (zs .exit))) ⌝ }
 {
+    let container = records::container_in(f);
     let mut stand = Stand::new(container);
-    let mut count = 0;
+    let mut held = 0;
     let mut j = 0;
     while j < n {
-        let tried = try_item(f, stand, records, items, n, j);
-        let s = tried.step;
-        count = put_line(
-            s,
-            tried.id,
-            tried.instance,
-            count,
-            ids,
-            instances,
-            turns,
-            xs,
-            ys,
-            zs,
-        );
+        let t = try_item(f, stand, records, items, n, j);
+        let s = t.step;
+        held = put_line(s, t.id, t.instance, held, ids, instances, turns, xs, ys, zs);
         let next = s.next;
         stand = next;
         j += 1;
     }
-    Laid { stand, count }
-}
-
-fn refused_told(refused: u32) -> Told
-    ensures { λ r. ⌜ r ≡ refusedTold refused ⌝ }
-{
     Told {
-        refused,
-        considered: 0,
-        placed: 0,
-        utilization: 0.0,
+        refused: 0,
+        considered: n as u64,
+        placed: held,
+        utilization: stand.utilization(),
     }
 }
 
@@ -139,26 +121,6 @@ pub fn lay_items(
     if layer_instances::has_stranger(records, a.kinds) {
         return refused_told(9);
     }
-    let n = plan_sheet::smaller(consider, many as u64);
-    let container = records::container_in(order);
-    let l = lay_each(
-        order,
-        container,
-        records,
-        items,
-        n as usize,
-        ids,
-        instances,
-        turns,
-        xs,
-        ys,
-        zs,
-    );
-    let stand = l.stand;
-    Told {
-        refused: 0,
-        considered: n,
-        placed: l.count,
-        utilization: stand.utilization(),
-    }
+    let n = plan_sheet::smaller(consider, many as u64) as usize;
+    lay_each(order, records, items, n, ids, instances, turns, xs, ys, zs)
 }

@@ -1,18 +1,9 @@
 // The step of a run for one box: its line goes into lent columns behind the lines before it.
-ghost use mathlib.Core.Path.{_≡_};
-ghost use Prim.Native.Nat.{_<_, _≤_, _+_};
+ghost use Prim.Native.Nat.{_<_};
 ghost use Rattle.domain.specs.Bounds.{mostLines};
-ghost use Rattle.layer_plan.specs.Run.{countAfter};
 ghost use Rattle.sheet.specs.Columns.{columns};
 ghost use Rattle.layer_plan.specs.Columns.{Puts};
-use layer_state::Stand;
 use layer_state::Step;
-
-// What a run has after some boxes, beside the columns: the stand, and how many lines there are.
-pub(crate) struct Laid {
-    pub(crate) stand: Stand,
-    pub(crate) count: usize,
-}
 
 // The line of a box that was placed, at n. No box, no change. How many lines there are then.
 pub(crate) fn put_line(
@@ -32,15 +23,15 @@ pub(crate) fn put_line(
         (columns (now (ids .entry)) (now (instances .entry)) (now (turns .entry)) (now (xs .entry)) (now (ys .entry)) (now (zs .entry)))
         (columns (now (ids .exit)) (now (instances .exit)) (now (turns .exit)) (now (xs .exit)) (now (ys .exit)) (now (zs .exit))) ⌝ }
 {
-    if s.fits {
-        let at = s.at;
-        ids[n] = id;
-        instances[n] = instance;
-        turns[n] = s.orientation;
-        xs[n] = at[0];
-        ys[n] = at[1];
-        zs[n] = at[2];
-        return n + 1;
+    if !s.fits {
+        return n;
     }
-    n
+    let at = s.at;
+    ids[n] = id;
+    instances[n] = instance;
+    turns[n] = s.orientation;
+    xs[n] = at[0];
+    ys[n] = at[1];
+    zs[n] = at[2];
+    n + 1
 }

@@ -1,13 +1,8 @@
-// The plan that the layer placer makes of a whole order, and of given items (packing_utils.rs, `layer_fill_in_order` and `layer_place_items`).
+// The plan that the layer placer makes of the order in a load file, and of given items of it, laid in lent columns (packing_utils.rs,
+// `layer_fill_in_order` and `layer_place_items`).
 mod items;
 mod lay;
-mod offers;
 mod order;
-mod run;
 
 pub use items::lay_items;
-pub use offers::Offer;
-pub use offers::Way;
 pub use order::lay_layers;
-pub use run::layer_fill;
-pub use run::place_items;

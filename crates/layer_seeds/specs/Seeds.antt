@@ -17,13 +17,13 @@ use Rattle.sheet.specs.declared.Sheet.{Sheet}
 use Rattle.sheet.specs.Sheets.{noLine, kindAt, sheetRefusal}
 use Rattle.file_read.specs.Form.{rightShape, linesStart, countsOf}
 use Rattle.file_read.specs.Reading.{sheetOf, refusalOf}
-use Rattle.file_read.specs.Refusal.{shape-refused, sheet-decides}
+use Rattle.file_read.specs.Refusal.{shape-refused, sheet-decides, sheet-sound}
 use Rattle.file_read.specs.Records.{Readable, many-is}
 use Rattle.file_accept.specs.declared.Accepted.{Accepted}
 use Rattle.file_accept.specs.Accept.{Taken}
 use Rattle.layer_instances.specs.declared.Built.{Built}
 use Rattle.layer_instances.specs.Records.{recordsIn, isStranger, stranger-not}
-use Rattle.layer_instances.specs.Instances.{answerOf, overNumber, sheet-sound}
+use Rattle.layer_instances.specs.Instances.{answerOf, overNumber}
 
 -- the line places this box
 abbrev pub isOf : Line → ℕ → ℕ → Bool

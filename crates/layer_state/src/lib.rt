@@ -1,4 +1,4 @@
-// The layer fill without its placements, for `layer_fill` and `layer_run`, which hold the lines beside it. Its calls take every stand and every
+// The layer fill without its placements, for `layer_fill` and `layer_plan`, which hold the lines beside it. Its calls take every stand and every
 // kind and test neither, as what they compute is settled for each: users call the fill, which refuses.
 mod best;
 mod stand;

@@ -14,7 +14,7 @@ use lib.Dec.{ltb}
 use Rattle.check_words.specs.Words.{onlyIf}
 use Rattle.check_words.specs.Wrote.{Wrote, Given, mostWords}
 
-wrote-one : {o : List ℕ} {at : ℕ} {ws : List ℕ} {r s : ℕ} {x y : List ℕ} → Wrote o at ws r x → Wrote o at ws s y → (r ≡ s) × (x ≡ y)
+pub wrote-one : {o : List ℕ} {at : ℕ} {ws : List ℕ} {r s : ℕ} {x y : List ℕ} → Wrote o at ws r x → Wrote o at ws s y → (r ≡ s) × (x ≡ y)
 wrote-one p q = (p .next ∙ sym (q .next), p .cells ∙ sym (q .cells))
 
 -- within the most cells the words are written, past them none

@@ -7,8 +7,6 @@ use Rattle.one_result.specs.Law.{World, Settles, told, nothing, plain}
 use Rattle.layer_instances.proofs.has_stranger as has-stranger
 use Rattle.layer_instances.proofs.answer as answer
 use Rattle.layer_instances.proofs.over_number as over-number
-use Rattle.layer_instances.proofs.next_box as next-box
-use Rattle.layer_instances.proofs.boxes_of as boxes-of
 use Rattle.layer_instances.proofs.build_instances as build-instances
 
 module _ {M : Type 1} (𝓤 : URA M) (w : World 𝓤) where
@@ -20,12 +18,6 @@ module _ {M : Type 1} (𝓤 : URA M) (w : World 𝓤) where
 
   pub over-number-one : (κs : _) (args : _) → Settles 𝓤 (over-number.clauses 𝓤 (w .heap) (w .atoms) (w .mem) (w .run) κs args) nothing
   over-number-one κs args = plain 𝓤 _ _ (λ _. refl) (λ _ _ _. refl)
-
-  pub next-box-one : (κs : _) (args : _) → Settles 𝓤 (next-box.clauses 𝓤 (w .heap) (w .atoms) (w .mem) (w .run) κs args) nothing
-  next-box-one κs args = plain 𝓤 _ _ (λ _. refl) (λ _ _ _. refl)
-
-  pub boxes-of-one : (κs : _) (args : _) → Settles 𝓤 (boxes-of.clauses 𝓤 (w .heap) (w .atoms) (w .mem) (w .run) κs args) nothing
-  boxes-of-one κs args = plain 𝓤 _ _ (λ _. refl) (λ _ _ _. refl)
 
   pub build-instances-one : (κs : _) (args : _) → Settles 𝓤 (build-instances.clauses 𝓤 (w .heap) (w .atoms) (w .mem) (w .run) κs args) (λ e. now (e .1 .0))
   build-instances-one κs args =

@@ -5,7 +5,6 @@ use Rattle.one_result.specs.Law.{World, Settles, nothing, plain}
 use Rattle.sheet.proofs.empty_sheet as empty-sheet
 use Rattle.sheet.proofs.over_count as over-count
 use Rattle.sheet.proofs.is_among as is-among
-use Rattle.sheet.proofs.boxes_in as boxes-in
 use Rattle.sheet.proofs.sheet_refusal as sheet-refusal
 use Rattle.sheet.proofs.blank_kind as blank-kind
 use Rattle.sheet.proofs.blank_line as blank-line
@@ -19,9 +18,6 @@ module _ {M : Type 1} (𝓤 : URA M) (w : World 𝓤) where
 
   pub is-among-one : (κs : _) (args : _) → Settles 𝓤 (is-among.clauses 𝓤 (w .heap) (w .atoms) (w .mem) (w .run) κs args) nothing
   is-among-one κs args = plain 𝓤 _ _ (λ _. refl) (λ _ _ _. refl)
-
-  pub boxes-in-one : (κs : _) (args : _) → Settles 𝓤 (boxes-in.clauses 𝓤 (w .heap) (w .atoms) (w .mem) (w .run) κs args) nothing
-  boxes-in-one κs args = plain 𝓤 _ _ (λ _. refl) (λ _ _ _. refl)
 
   pub sheet-refusal-one : (κs : _) (args : _) → Settles 𝓤 (sheet-refusal.clauses 𝓤 (w .heap) (w .atoms) (w .mem) (w .run) κs args) nothing
   sheet-refusal-one κs args = plain 𝓤 _ _ (λ _. refl) (λ _ _ _. refl)

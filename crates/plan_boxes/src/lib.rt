@@ -2,10 +2,8 @@
 // (packing_utils.rs, `build_instances`; extreme_point.rs, the loops that open `run_ep_packing`).
 ghost use mathlib.Core.Path.{_≡_};
 ghost use Prim.Native.Nat.{_<_};
-ghost use Rattle.domain.specs.Bounds.{mostBoxes};
-ghost use Rattle.plan_boxes.specs.Turns.{nextTurn};
-ghost use Rattle.plan_boxes.specs.Listing.{quantityAt, atMostAll, noBoxes, listingOf};
-use measures::Kind;
+ghost use Rattle.plan_boxes.specs.Files.{nextBox, boxesFrom};
+use file_read::records;
 
 // One box: its kind's place in the order, and which one of that kind it is.
 pub struct Instance {
@@ -13,21 +11,13 @@ pub struct Instance {
     pub instance: u32,
 }
 
-// How many boxes the kind at this place has, if it is in the store; a kind past it has none.
-fn quantity_at(k: usize, quantity: u32) -> u32
-    ensures { λ r. ⌜ r ≡ quantityAt k quantity ⌝ }
+// The box behind this one, of a kind that has so many: its next instance, or the first of the next kind. A kind that no order has is left as it is.
+pub fn next_box(u: Instance, quantity: u32) -> Instance
+    ensures { λ r. ⌜ r ≡ nextBox quantity u ⌝ }
 {
-    if k < domain::MOST_KINDS {
-        return quantity;
+    if u.kind >= domain::MOST_KINDS {
+        return u;
     }
-    0
-}
-
-// The box after this one, of a kind that has so many.
-fn next_turn(u: Instance, quantity: u32) -> Instance
-    requires { ⌜ u .kind < mostBoxes ⌝ }
-    ensures { λ r. ⌜ r ≡ nextTurn quantity u ⌝ }
-{
     if (u.instance as u64) + 1 < quantity as u64 {
         return Instance {
             kind: u.kind,
@@ -40,48 +30,25 @@ fn next_turn(u: Instance, quantity: u32) -> Instance
     }
 }
 
-// At most as many boxes as there can be.
-fn at_most_all(n: usize) -> usize
-    ensures { λ r. ⌜ r ≡ atMostAll n ⌝ }
+fn wide(x: u32) -> u64
+    ensures { λ r. ⌜ (r ≡ x) × (r < 4294967296) ⌝ }
 {
-    if n < domain::MOST_BOXES {
-        return n;
-    }
-    domain::MOST_BOXES
+    x as u64
 }
 
-fn no_boxes() -> [Instance; domain::MOST_BOXES]
-    ensures { λ r. ⌜ r ≡ noBoxes ⌝ }
+// The boxes of the first m kinds of a file, and 0 for more kinds than there can be. It cannot wrap: at most 64 numbers of 32 bits.
+pub fn boxes_of(f: &[u8], m: usize) -> u64
+    ensures { λ r. ⌜ r ≡ boxesFrom (now (f .entry)) m ⌝ }
 {
-    let none = Instance {
-        kind: 0,
-        instance: 0,
-    };
-    [none; domain::MOST_BOXES]
-}
-
-// The first n boxes of an order, as many as there can be at most, and (0, 0) in the cells past them. The first is instance 0 of kind 0, and behind
-// instance i of kind k comes instance i + 1 of it where the kind has so many, else instance 0 of kind k + 1. For an accepted
-// order and an n up to its total these are its boxes, each once (`turn-right`, `turn-at`). For other input the rule is the
-// same: a kind of quantity 0 gets its instance 0, and past the order's last kind each kind does, with the quantity that its
-// cell has, or with none past the store. Whoever offers the boxes of a listing tests the order first.
-pub fn listing(kinds: [Kind; domain::MOST_KINDS], n: usize) -> [Instance; domain::MOST_BOXES]
-    ensures { λ r. ⌜ r ≡ listingOf kinds n ⌝ }
-{
-    let most = at_most_all(n);
-    let mut boxes = no_boxes();
-    let mut u = Instance {
-        kind: 0,
-        instance: 0,
-    };
-    let mut t = 0;
-    while t < most {
-        boxes[t] = u;
-        let at = u.kind;
-        let k = domain::place_within(at);
-        let kind = kinds[k];
-        u = next_turn(u, quantity_at(at, kind.quantity));
-        t += 1;
+    if m > domain::MOST_KINDS {
+        return 0;
     }
-    boxes
+    let mut t: u64 = 0;
+    let mut k = 0;
+    while k < m {
+        let kind = records::kind_in(f, k);
+        t += wide(kind.quantity);
+        k += 1;
+    }
+    t
 }

@@ -20,10 +20,9 @@ use Rattle.plan_unplaced.specs.declared.Left.{Left}
 use Rattle.plan_unplaced.specs.Left.{leftAfter, flagsOf, leftOf, left-few, left-fair}
 use Rattle.plan_unplaced.specs.Short.{namesOf}
 use Rattle.plan_unplaced.specs.Anew.{anew-refusal}
-use Rattle.plan_sheet.specs.declared.Plan.{Plan}
-use Rattle.plan_sheet.specs.Plans.{blankLine, leftBy, plannedOf, planRefusal}
+use Rattle.plan_sheet.specs.Plans.{Plan, blankLine, leftBy, plannedOf, planRefusal}
 use Rattle.plan_sheet.specs.Planned.{widened, plannedSheet, sheetFrom}
-use Rattle.point_stow.specs.declared.Stowed.{Stowed}
+use Rattle.point_stow.specs.Stow.{Stowed}
 use Rattle.point_state.specs.Fresh.{freshOf}
 use Rattle.point_laws.specs.Reach.{start}
 use Rattle.lists.specs.Table.{table, table-at, filled}
@@ -36,9 +35,9 @@ use Rattle.plan_sheet.specs.Boxes.{smaller}
 use Rattle.layer_fill.specs.declared.LayerFill.{LayerFill}
 use Rattle.layer_fill.specs.Fill.{empty}
 use Rattle.layer_plan.specs.Run.{runFrom, run-few}
-use Rattle.layer_plan.specs.Offers.{bestOffer}
+use Rattle.layer_plan.specs.Offers.{bestOffer, itemOffer, itemCount}
 use Rattle.layer_plan.specs.Fills as Fills
-use Rattle.layer_plan.specs.Fills.{layerFillOf, smaller-le, turns-right}
+use Rattle.layer_plan.specs.Fills.{layerFillOf, itemsRefusal, placeItemsOf, smaller-le, turns-few, items-right}
 use Rattle.plan_boxes.specs.Orders.{some-boxes, boxes-are}
 use Rattle.plan_laws.specs.Spots.{sized, no-fault}
 use Rattle.plan_laws.specs.Points.{Housed, reached-housed}
@@ -65,11 +64,12 @@ planned-holds kinds m lines n considered u h k =
     let f = left-few kinds flags m in
     rw (e, left-fair kinds flags m) (record { not-refused = refl; placed-are = refl; lines-are = refl; ids-few = omega arith })
 
--- the unplaced list of a plan of m kinds is what its own lines leave
+-- the unplaced list of a plan of m kinds is what its own lines leave, which are no more than there may be
 abbrev pub leftIn : List Kind → ℕ → List Line → ℕ → Left
 leftIn kinds m lines n = leftAfter kinds (flagsOf kinds (namesOf lines mostLines .ids) (namesOf lines mostLines .instances) n m) m
 
 pub record Lists (kinds : List Kind) (m : ℕ) (p : Plan) : Type 0 where
+  pub lines-few : p .placed ≤ mostLines
   pub count-is : p .unplaced ≡ leftIn kinds m (p .lines) (p .placed) .count
   pub ids-are : p .ids ≡ leftIn kinds m (p .lines) (p .placed) .ids
 
@@ -78,7 +78,7 @@ planned-lists : (kinds : List Kind) (m : ℕ) (lines : List Line) (n considered 
 unfolding plannedOf
 planned-lists kinds m lines n considered u h k =
     rw (left-is kinds m lines n h k, left-fair kinds (flagsOf kinds (namesOf lines mostLines .ids) (namesOf lines mostLines .instances) n m) m)
-    (record { count-is = refl; ids-are = refl })
+    (record { lines-few = k; count-is = refl; ids-are = refl })
 
 -- ---- the sheet of such a plan
 
@@ -189,7 +189,7 @@ fillTo order consider = runFrom (empty (order .container)) (order .kinds) (bestO
 
 count-few : (order : Sheet) (consider : ℕ) → sheetRefusal order ≡ 0 → fillTo order consider .count ≤ mostLines
 count-few order consider z =
-    let m = turns-right order (accepted order z) consider .few in
+    let m = turns-few order (accepted order z) consider in
     let c = run-few (empty (order .container)) (order .kinds) (bestOffer (order .kinds)) (number order consider) in
     omega arith
 
@@ -200,7 +200,7 @@ layers-accepted order consider z =
     let l = smaller-le consider (boxesIn (order .kinds) (order .many .kinds)) in
     rw z
     (stow-accepted order (fillTo order consider) (number order consider) z
-    (fill-right (order .container) (order .kinds) (number order consider) (sized (order .container) (a .container-right)) (turns-right order a consider .few)
+    (fill-right (order .container) (order .kinds) (number order consider) (sized (order .container) (a .container-right)) (turns-few order a consider)
     (λ t k. turn-measures order a t (omega arith)))
     (count-few order consider z))
 
@@ -211,6 +211,20 @@ layers-lists order consider z =
     rw z
     (planned-lists (order .kinds) (order .many .kinds) (f .lines) (f .count) (number order consider) _ (accepted order z .few-of .kinds)
     (count-few order consider z))
+
+-- ---- items
+
+pub items-lists : (order : Sheet) (records items : List ℕ) (consider : ℕ) → itemsRefusal order records items ≡ 0
+    → Lists (order .kinds) (order .many .kinds) (placeItemsOf order records items consider)
+unfolding placeItemsOf Fills.planFrom
+items-lists order records items consider z =
+    let r = items-right order records items z in
+    let n = smaller consider (itemCount items) in
+    let l = smaller-le consider (itemCount items) in
+    let m = r .few in
+    let c = run-few (empty (order .container)) (order .kinds) (itemOffer records items) n in
+    let f = runFrom (empty (order .container)) (order .kinds) (itemOffer records items) n in
+    rw z (planned-lists (order .kinds) (order .many .kinds) (f .lines) (f .count) n _ (accepted order (r .order-accepted) .few-of .kinds) (omega arith))
 
 -- ---- the lines of a plan
 

@@ -16,9 +16,8 @@ use Rattle.sheet.specs.Sheets.{noKind, noLine, blankLine, sheetRefusal}
 use Rattle.sheet.specs.Accepted.{accepted}
 use Rattle.layer_fill.specs.declared.LayerFill.{LayerFill}
 use Rattle.layer_fill.specs.Fill.{noLines, empty, lineOf, took}
-use Rattle.layer_plan.specs.declared.offers.Offer.{Offer}
 use Rattle.layer_plan.specs.Run.{stepBy, offered, runFrom}
-use Rattle.layer_plan.specs.Offers.{bestOffer}
+use Rattle.layer_plan.specs.Offers.{Offer, bestOffer}
 use Rattle.point_laws.specs.Told.{runBy}
 use Rattle.layer_plan.specs.Fills.{layerFillOf}
 use Rattle.point_run.specs.Runs.{lineBy, epPackingOf}

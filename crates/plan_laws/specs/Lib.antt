@@ -5,5 +5,6 @@ pub mod Layers
 pub mod Points
 pub mod Accepted
 pub mod Bins
+pub mod Laid
 pub mod Listed
 pub mod NoneLost

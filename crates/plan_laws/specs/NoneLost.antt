@@ -18,7 +18,7 @@ use Rattle.sheet.specs.Accepted.{Accepted, accepted}
 use Rattle.plan_unplaced.specs.declared.Left.{Left}
 use Rattle.plan_unplaced.specs.Short.{isShort, namesOf}
 use Rattle.plan_unplaced.specs.Left.{shortKind, flagsOf, leftAfter, left-few}
-use Rattle.plan_sheet.specs.declared.Plan.{Plan}
+use Rattle.plan_sheet.specs.Plans.{Plan}
 use Rattle.plan_sheet.specs.Planned.{plannedSheet}
 use Rattle.point_run.specs.Runs.{epPackingOf}
 use Rattle.layer_plan.specs.Fills.{layerFillOf}

@@ -11,7 +11,7 @@ use Rattle.sheet.specs.declared.Line.{Line}
 use Rattle.sheet.specs.Sheets.{noLine, blankLine}
 use Rattle.sheet.specs.Columns.{Columns, columnLine}
 use Rattle.plan_unplaced.specs.declared.Left.{Left}
-use Rattle.plan_sheet.specs.declared.Plan.{Plan}
+use Rattle.plan_sheet.specs.Plans.{Plan}
 use Rattle.plan_sheet.specs.declared.Told.{Told}
 use Rattle.plan_sheet.specs.declared.Packed.{Packed}
 use Rattle.plan_sheet.specs.Hand.{wordsOf, lineWords, handedOf, slotsOf}

@@ -16,9 +16,8 @@ use Rattle.lists.specs.Bools.{or-left}
 use Rattle.domain.specs.Laws.{or-else-first, or-else-second, when-none}
 use Rattle.sheet.specs.declared.Line.{Line}
 use Rattle.sheet.specs.Sheets.{noLine}
-use Rattle.plan_sheet.specs.declared.Plan.{Plan}
 use Rattle.plan_sheet.specs.declared.Packed.{Packed}
-use Rattle.plan_sheet.specs.Plans.{planRefusal}
+use Rattle.plan_sheet.specs.Plans.{Plan, planRefusal}
 use Rattle.lists.specs.Rows.{wrote}
 
 -- the words of one line
@@ -30,7 +29,7 @@ wordsOf l =
 unfoldable pub lineWords : List Line → ℕ → List ℕ
 lineWords lines i = wordsOf (getD lines i noLine)
 
--- what the plan is refused by, then 01's 6: "the lent slots are fewer than the results"
+-- what the plan is refused by, then 6, where the lent slots are fewer than the results
 unfoldable pub handRefusal : ℕ → ℕ → ℕ → ℕ → ℕ
 handRefusal refused placed unplaced room = orElse (planRefusal refused placed unplaced) (when (ltb (room / 6) placed) 6)
 

@@ -11,9 +11,8 @@ use Rattle.sheet.specs.declared.Sheet.{Sheet}
 use Rattle.sheet.specs.Sheets.{noLine}
 use Rattle.sheet.specs.Columns.{Columns, idOf, instanceOf, orientationOf, xOf, yOf, zOf}
 use Rattle.file_read.specs.Reading.{sheetOf, refusalOf}
-use Rattle.plan_sheet.specs.declared.Plan.{Plan}
 use Rattle.plan_sheet.specs.declared.Told.{Told}
-use Rattle.plan_sheet.specs.Plans.{refusedPlan}
+use Rattle.plan_sheet.specs.Plans.{Plan, refusedPlan}
 
 -- RULES: Plans. The plan that a placer makes of the order in a load file: the file's own refusal, or the plan of the order that its bytes mean.
 unfoldable pub planIn : (Sheet → ℕ → Plan) → List ℕ → ℕ → Plan

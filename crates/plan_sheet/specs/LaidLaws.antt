@@ -8,13 +8,12 @@ use Rattle.lists.specs.Table.{filled-at}
 use Rattle.domain.specs.Bounds.{mostLines}
 use Rattle.measures.specs.declared.Kind.{Kind}
 use Rattle.sheet.specs.declared.Line.{Line}
-use Rattle.sheet.specs.Columns.{idOf, instanceOf}
+use Rattle.sheet.specs.Columns.{Columns, idOf, instanceOf, orientationOf, xOf, yOf, zOf}
 use Rattle.plan_unplaced.specs.Short.{namesOf, named}
 use Rattle.plan_unplaced.specs.Left.{leftOf}
 use Rattle.plan_unplaced.specs.Same.{left-same}
-use Rattle.plan_sheet.specs.declared.Plan.{Plan}
-use Rattle.plan_sheet.specs.Plans.{leftBy}
-use Rattle.plan_sheet.specs.Laid.{placedAt, laid}
+use Rattle.plan_sheet.specs.Plans.{Plan, leftBy}
+use Rattle.plan_sheet.specs.Laid.{placedAt, laid, laidIn}
 
 -- cell i is of line i
 pub laid-at : {A : Type 0} (part : Line → A) (old : List A) (p : Plan) (i : ℕ) (d : A) → p .placed ≤ length old → i < p .placed
@@ -29,3 +28,9 @@ left-laid kinds m p ids instances few long long′ =
     (λ j l. laid-at idOf ids p j 0 (omega arith) l ∙ sym (named (p .lines) mostLines j (omega arith) (omega arith) .id-is))
     (λ j l. laid-at instanceOf instances p j 0 (omega arith) l ∙ sym (named (p .lines) mostLines j (omega arith) (omega arith) .instance-is))
     kinds m
+
+-- column by column
+pub laid-all : (p : Plan) (old new : Columns) → new .ids ≡ laid idOf (old .ids) p → new .instances ≡ laid instanceOf (old .instances) p
+    → new .turns ≡ laid orientationOf (old .turns) p → new .xs ≡ laid xOf (old .xs) p → new .ys ≡ laid yOf (old .ys) p → new .zs ≡ laid zOf (old .zs) p
+    → new ≡ laidIn old p
+laid-all p old new a b c d e f = rw (← a, ← b, ← c, ← d, ← e, ← f)

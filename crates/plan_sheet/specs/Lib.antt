@@ -4,5 +4,6 @@ pub mod Hand
 pub mod Boxes
 pub mod Planned
 pub mod Laid
+pub mod Refused
 pub mod Columns
 pub mod LaidLaws

@@ -8,9 +8,12 @@ use Rattle.lists.specs.Table.{table}
 use Rattle.domain.specs.Bounds.{mostKinds, mostUnplaced}
 use Rattle.sheet.specs.declared.Sheet.{Sheet}
 use Rattle.sheet.specs.Sheets.{emptySheet}
-use Rattle.plan_sheet.specs.declared.Plan.{Plan}
-use Rattle.plan_sheet.specs.declared.PlanSheet.{PlanSheet}
-use Rattle.plan_sheet.specs.Plans.{planRefusal}
+use Rattle.plan_sheet.specs.Plans.{Plan, planRefusal}
+
+-- a sheet, or the refusal in its place
+pub record PlanSheet : Type 0 where
+  pub refused : ℕ
+  pub sheet : Sheet
 
 -- a plan's ids in a store of as many as a sheet may list
 abbrev pub widened : List ℕ → List ℕ

@@ -1,4 +1,4 @@
--- A plan from the lines that were placed.
+-- A plan: what it holds, and that of lines that were placed.
 use mathlib.Core.Bool.{Bool, true, false, cond, _||_}
 use mathlib.Core.List.{List}
 use Prim.Native.Nat.{ℕ}
@@ -11,10 +11,17 @@ use Rattle.domain.specs.Refusals.{when, orElse}
 use Rattle.measures.specs.declared.Kind.{Kind}
 use Rattle.sheet.specs.declared.Line.{Line}
 pub use Rattle.sheet.specs.Sheets.{blankLine}
-use Rattle.plan_unplaced.specs.declared.Left.{Left}
-use Rattle.plan_unplaced.specs.Short.{namesOf}
-use Rattle.plan_unplaced.specs.Left.{leftOf}
-use Rattle.plan_sheet.specs.declared.Plan.{Plan}
+pub use Rattle.plan_unplaced.specs.Left.{leftBy}
+
+-- RULES: Plans. The first `placed` lines and the first `unplaced` ids. A refused plan holds nothing but its refusal.
+pub record Plan : Type 0 where
+  pub refused : ℕ
+  pub considered : ℕ
+  pub utilization : Float
+  pub placed : ℕ
+  pub unplaced : ℕ
+  pub lines : List Line
+  pub ids : List ℕ
 
 -- nothing but the refusal
 unfoldable pub refusedPlan : ℕ → Plan
@@ -29,10 +36,7 @@ refusedPlan r =
       ids = replicate mostKinds 0;
     }
 
--- the unplaced list that n of the lines leave
-abbrev pub leftBy : List Kind → ℕ → List Line → ℕ → Left
-leftBy kinds m lines n = leftOf kinds m (namesOf lines mostLines .ids) (namesOf lines mostLines .instances) n
-
+-- the plan of m kinds whose first n lines are placed, with the unplaced list that they leave
 unfoldable pub plannedOf : List Kind → ℕ → List Line → ℕ → ℕ → Float → Plan
 plannedOf kinds m lines n considered utilization =
     cond (eqb (leftBy kinds m lines n .refused) 0)

@@ -6,6 +6,7 @@ ghost use Rattle.domain.specs.Bounds.{mostLines};
 ghost use Rattle.lists.specs.Rows.{wrote};
 ghost use Rattle.sheet.specs.Columns.{columns, lineFor};
 ghost use Rattle.plan_sheet.specs.Columns.{rowBy, Handed};
+ghost use Rattle.plan_sheet.specs.Refused.{refusedTold};
 use crate::Packed;
 use crate::Told;
 use crate::WORDS;
@@ -14,6 +15,18 @@ use crate::put_line;
 use crate::refused_pack;
 use plan_unplaced::Left;
 use sheet::Line;
+
+// What is told of a refused plan, whose columns stay as they were.
+pub fn refused_told(refused: u32) -> Told
+    ensures { λ r. ⌜ r ≡ refusedTold refused ⌝ }
+{
+    Told {
+        refused,
+        considered: 0,
+        placed: 0,
+        utilization: 0.0,
+    }
+}
 
 // A line of a planned sheet.
 fn line_for(id: u32, instance: u32, orientation: u32, x: f64, y: f64, z: f64) -> Line

@@ -1,9 +1,9 @@
 -- An accepted order with other lines and unplaced ids in the place of its own: all that can be refused of it then is a line.
-use mathlib.Core.Path.{_≡_, refl}
-use mathlib.Core.Bool.{Bool, true, false, _||_}
+use mathlib.Core.Path.{_≡_}
+use mathlib.Core.Bool.{_||_}
 use mathlib.Core.List.{List}
-use Prim.Native.Nat.{ℕ, zero, suc, _≤_}
-use borrow.Author.Tests.{ltb-false, le-ltb}
+use Prim.Native.Nat.{ℕ, _≤_}
+use borrow.Author.Tests.{le-ltb}
 use lib.Dec.{ltb}
 use Rattle.domain.specs.Bounds.{mostKinds, mostBoxes, mostLines, mostUnplaced}
 use Rattle.lists.specs.Below.{sumBelow}
@@ -14,7 +14,6 @@ use Rattle.sheet.specs.declared.Line.{Line}
 use Rattle.sheet.specs.declared.Sheet.{Sheet}
 use Rattle.sheet.specs.Sheets.{overCount, kindFaultIn, quantityOf, lineFaultIn, sheetRefusal}
 use Rattle.sheet.specs.Accepted.{Few, accepted}
-use Rattle.plan_unplaced.specs.Left.{withLines, unplacedRefusal}
 
 -- with n lines and u ids
 abbrev pub anew : Sheet → List Line → ℕ → List ℕ → ℕ → Sheet
@@ -44,19 +43,3 @@ anew-refusal order lines n ids u h few-lines few-ids =
       or-else-first (firstBelow (kindFaultIn (order .kinds)) (order .many .kinds)) _ h₂,
       when-none (ltb mostBoxes total) 1 (or-else-first (when (ltb mostBoxes total) 2) _ h₃),
     )
-
--- so the refusal of a list of lines is that of the order with them
-pub unplaced-refusal : (order : Sheet) (lines : List Line) (n : ℕ)
-    → orElse (when (ltb mostLines n) 2) (orElse (sheetRefusal order) (sheetRefusal (withLines order lines n))) ≡ unplacedRefusal order lines n
-unfolding unplacedRefusal orElse
-unplaced-refusal order lines n = over (ltb mostLines n) refl
-  where
-    own : (r : ℕ) → sheetRefusal order ≡ r → n ≤ mostLines → orElse r (sheetRefusal (withLines order lines n)) ≡ orElse r (firstBelow (lineFaultIn lines) n)
-    own zero e l = anew-refusal order lines n (order .unplaced) (order .many .unplaced) e l (accepted order e .few-of .unplaced)
-    own (suc r) e l = refl
-
-    over : (b : Bool) → ltb mostLines n ≡ b
-        → orElse (when b 2) (orElse (sheetRefusal order) (sheetRefusal (withLines order lines n))) ≡ orElse (when b 2)
-        (orElse (sheetRefusal order) (firstBelow (lineFaultIn lines) n))
-    over true e = refl
-    over false e = own (sheetRefusal order) refl (ltb-false mostLines n e)

@@ -1,17 +1,27 @@
--- The kinds that bytes say, which for an accepted file are those of its sheet.
+-- The kinds that bytes say, which for an accepted file are those of its sheet; and the unplaced list of a file.
 use mathlib.Core.Path.{_≡_, refl, sym, _∙_}
+use mathlib.Core.Bool.{cond}
 use mathlib.Core.List.{List}
-use Prim.Native.Nat.{ℕ, _<_, _≤_}
+use Prim.Native.Nat.{ℕ, _+_, _<_, _≤_}
+use native.Mathlib.Numerals.{add-one}
+use native.Mathlib.Nat.{le-refl}
 use native.Mathlib.Omega.{arith}
-use lib.ListN.{getD}
-use Rattle.lists.specs.Table.{table, table-at, table-same, table-is}
-use Rattle.domain.specs.Bounds.{mostKinds}
+use borrow.Author.Tests.{eq-eqb, ne-eqb}
+use lib.Dec.{eqb}
+use lib.ListN.{getD, set, replicate}
+use Rattle.lists.specs.Table.{table, table-at, table-same, filled}
+use Rattle.domain.specs.Bounds.{mostKinds, mostLines}
 use Rattle.measures.specs.declared.Kind.{Kind}
-use Rattle.sheet.specs.Sheets.{noKind, blankKind}
+use Rattle.sheet.specs.declared.Line.{Line}
+use Rattle.sheet.specs.Sheets.{noKind, noLine, blankKind}
 use Rattle.file_read.specs.Form.{countsOf}
-use Rattle.file_read.specs.Reading.{kindFrom, kindPlace, kindsOf, sheetOf}
+use Rattle.file_read.specs.Reading.{kindFrom, kindPlace, kindsOf, sheetOf, refusalOf}
 use Rattle.file_read.specs.Tables.{kinds-at}
-use Rattle.file_read.specs.Records.{kindIn, Readable, bounds, kind-is}
+use Rattle.file_read.specs.Records.{kindIn, Readable, bounds, kind-is, many-is}
+use Rattle.plan_unplaced.specs.declared.Left.{Left}
+use Rattle.plan_unplaced.specs.Short.{idAt, instanceAt, namesOf}
+use Rattle.plan_unplaced.specs.Left.{noLeft, leftOf, unplacedOf}
+use Rattle.plan_unplaced.specs.Same.{Agree, left-same}
 
 -- the first m kinds, blank past them
 abbrev pub kindsIn : List ℕ → ℕ → List Kind
@@ -25,3 +35,41 @@ unfolding sheetOf kindsOf
 kinds-in-is f r =
     table-same blankKind mostKinds (λ k. kindIn f k) (λ k. kindFrom f (kindPlace k)) (countsOf f .kinds)
     (λ k l. kind-is f k r l ∙ kinds-at f (countsOf f .kinds) k (bounds f r .kinds) l)
+
+-- RULES: Unplaced list. The unplaced list of a load file by its own lines, or the refusal that reading it gets
+unfoldable pub fileUnplaced : List ℕ → Left
+fileUnplaced f = cond (eqb (refusalOf f) 0) (unplacedOf (sheetOf f)) (noLeft (refusalOf f))
+
+-- the ids and the instances of the first n lines in two columns
+pub record Names (lines : List Line) (n : ℕ) (ids₀ instances₀ ids instances : List ℕ) : Type 0 where
+  pub ids-are : ids ≡ filled ids₀ (idAt lines) n
+  pub instances-are : instances ≡ filled instances₀ (instanceAt lines) n
+
+-- ---- laws
+
+pub unplaced-refused : (f : List ℕ) (r : ℕ) → refusalOf f ≡ r → (r ≡ 0 → ⊥) → noLeft r ≡ fileUnplaced f
+unfolding fileUnplaced
+unplaced-refused f r e n = rw (e, ne-eqb r 0 n)
+
+module _ (f : List ℕ) (z : refusalOf f ≡ 0) (m n : ℕ) (r : Readable f) (kinds-are : m ≡ countsOf f .kinds) (lines-are : n ≡ countsOf f .lines) where
+  -- a column of the lines has what the names of all lines have there
+  agrees : (g : ℕ → ℕ) (column : List ℕ) → column ≡ filled (replicate mostLines 0) g n → Agree column (table 0 mostLines g mostLines) n
+  agrees g column e j l =
+      let few : n ≤ mostLines = rw lines-are (bounds f r .lines) in
+      rw e (table-at 0 mostLines g n j 0 few l ∙ sym (table-at 0 mostLines g mostLines j 0 (le-refl mostLines) (omega arith)))
+
+  pub unplaced-is : (ids instances : List ℕ) → Names (sheetOf f .lines) n (replicate mostLines 0) (replicate mostLines 0) ids instances
+      → leftOf (kindsIn f m) m ids instances n ≡ fileUnplaced f
+  unfolding fileUnplaced unplacedOf namesOf
+  unplaced-is ids instances h =
+      let lines = sheetOf f .lines in
+      left-same ids (table 0 mostLines (idAt lines) mostLines) instances (table 0 mostLines (instanceAt lines) mostLines) n (agrees _ ids (h .ids-are))
+      (agrees _ instances (h .instances-are)) (kindsIn f m) m
+      ∙ rw (eq-eqb (refusalOf f) 0 z, kinds-are, lines-are, kinds-in-is f r, ← (many-is f))
+
+-- one line more
+pub names-more : (lines : List Line) (n : ℕ) (ids₀ instances₀ ids instances : List ℕ) (l : Line) → Names lines n ids₀ instances₀ ids instances
+    → l ≡ getD lines n noLine → Names lines (n + 1) ids₀ instances₀ (set ids n (l .id)) (set instances n (l .instance))
+unfolding filled
+names-more lines n ids₀ instances₀ ids instances l h e =
+    rw (add-one n, e) (record { ids-are = rw (h .ids-are); instances-are = rw (h .instances-are) })

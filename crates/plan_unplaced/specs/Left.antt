@@ -1,23 +1,21 @@
--- The list itself: the ids of the short kinds, each once, in kind order; and the refusals of the calls that give it.
+-- The list itself: the ids of the short kinds, each once, in kind order. RULES: Unplaced list
 use mathlib.Core.Path.{_≡_, refl}
 use mathlib.Core.Bool.{Bool, true, false, cond, _||_}
-use mathlib.Core.List.{List, []}
+use mathlib.Core.List.{List}
 use Prim.Native.Nat.{ℕ, zero, suc, _+_, _≤_}
 use native.Mathlib.Nat.{le-refl}
 use native.Mathlib.Omega.{arith}
 use borrow.Author.Tests.{ltb-false}
-use lib.Dec.{eqb, ltb}
+use lib.Dec.{ltb}
 use lib.ListN.{getD, set, replicate}
 use Rattle.lists.specs.Table.{table}
 use Rattle.domain.specs.Bounds.{mostKinds, mostLines}
-use Rattle.domain.specs.Refusals.{when, orElse, firstBelow}
 use Rattle.lists.specs.Bools.{or-left, or-right}
 use Rattle.measures.specs.declared.Kind.{Kind}
 use Rattle.sheet.specs.declared.Line.{Line}
 use Rattle.sheet.specs.declared.Sheet.{Sheet}
-use Rattle.sheet.specs.Sheets.{noKind, lineFaultIn, sheetRefusal}
+use Rattle.sheet.specs.Sheets.{noKind}
 use Rattle.plan_unplaced.specs.declared.Left.{Left}
-use Rattle.plan_unplaced.specs.declared.Shorts.{Shorts}
 use Rattle.plan_unplaced.specs.Short.{isShort, namesOf}
 
 -- kind k is short
@@ -45,36 +43,17 @@ leftAfter kinds flags (suc m) = pushIf (getD flags m false) (getD kinds m noKind
 abbrev pub overBound : ℕ → ℕ → Bool
 overBound m n = ltb mostKinds m || ltb mostLines n
 
--- which of m kinds are short, by n lines
-unfoldable pub shortsOf : List Kind → ℕ → List ℕ → List ℕ → ℕ → Shorts
-shortsOf kinds m ids instances n =
-    cond (overBound m n) (record { refused = 2; flags = replicate mostKinds false })
-    (record { refused = 0; flags = flagsOf kinds ids instances n m })
-
--- the ids of those that are
+-- the ids of those of m kinds that are short by n lines
 unfoldable pub leftOf : List Kind → ℕ → List ℕ → List ℕ → ℕ → Left
 leftOf kinds m ids instances n = cond (overBound m n) (noLeft 2) (leftAfter kinds (flagsOf kinds ids instances n m) m)
 
--- the same for an order and a list of lines: 2 for their count, then what the order gets, then for the lines handed in 01's "3 line by line"
-unfoldable pub unplacedRefusal : Sheet → List Line → ℕ → ℕ
-unplacedRefusal order lines n = orElse (when (ltb mostLines n) 2) (orElse (sheetRefusal order) (firstBelow (lineFaultIn lines) n))
+-- the unplaced list that n of the lines leave
+abbrev pub leftBy : List Kind → ℕ → List Line → ℕ → Left
+leftBy kinds m lines n = leftOf kinds m (namesOf lines mostLines .ids) (namesOf lines mostLines .instances) n
 
-unfoldable pub unplacedOf : Sheet → List Line → ℕ → Left
-unplacedOf order lines n =
-    cond (eqb (unplacedRefusal order lines n) 0)
-    (leftOf (order .kinds) (order .many .kinds) (namesOf lines mostLines .ids) (namesOf lines mostLines .instances) n)
-    (noLeft (unplacedRefusal order lines n))
-
--- the order with n lines in the place of its own
-abbrev pub withLines : Sheet → List Line → ℕ → Sheet
-withLines order lines n =
-    record {
-      many = record { kinds = order .many .kinds; lines = n; unplaced = order .many .unplaced };
-      container = order .container;
-      kinds = order .kinds;
-      lines = lines;
-      unplaced = order .unplaced;
-    }
+-- that of a sheet, by its own lines
+unfoldable pub unplacedOf : Sheet → Left
+unplacedOf s = leftBy (s .kinds) (s .many .kinds) (s .lines) (s .many .lines)
 
 -- ---- a list that is made is not refused
 push-fair : (b : Bool) (id : ℕ) (l : Left) → l .refused ≡ 0 → pushIf b id l .refused ≡ 0

@@ -2,7 +2,10 @@
 use mathlib.Core.Path.{_≡_, refl, sym, _∙_}
 use mathlib.Core.Bool.{Bool, true, false, cond, not, _&&_}
 use mathlib.Core.List.{List}
-use Prim.Native.Nat.{ℕ, suc, _+_, _<_, _≤_}
+use mathlib.Core.Logic.{⊎-elim}
+use Prim.Native.Nat.{ℕ, zero, suc, _+_, _<_, _≤_}
+use native.Mathlib.Nat.{eq-or-lt-of-le, le-of-suc-le-suc}
+use native.Mathlib.Numerals.{add-one}
 use native.Mathlib.Omega.{arith}
 use borrow.Author.Tests.{ltb-true, ltb-false, eqb-true, eqb-false}
 use lib.Dec.{eqb, ltb}
@@ -96,3 +99,50 @@ module _ (ids instances : List ℕ) (n id q : ℕ) (seen : List Bool) (small : q
       go : (b : Bool) → (eqb (getD ids n 0) id && ltb (getD instances n 0) q) ≡ b → Stepped ids instances n id q seen (cond b (getD instances n 0) mostLines)
       go true h = step-hit (and-left (eqb (getD ids n 0) id) _ h) (ltb-true (getD instances n 0) q (and-right (eqb (getD ids n 0) id) _ h))
       go false h = step-miss h
+
+-- ---- several lines
+
+-- the lines from `from` up to `to` are of other kinds
+pub record Strangers (ids : List ℕ) (id from to : ℕ) : Type 0 where
+  pub none-named : (j : ℕ) → from ≤ j → j < to → eqb (getD ids j 0) id ≡ false
+
+-- the marks after the lines up to `to`, of which those from `from` on add so many
+pub record Adds (ids instances : List ℕ) (from to id q added : ℕ) (seen : List Bool) : Type 0 where
+  pub after : Marked ids instances to id q seen
+  pub counts : distinctPlaced ids instances to id q ≡ distinctPlaced ids instances from id q + added
+
+module _ (ids instances : List ℕ) (id q : ℕ) where
+  pub adds-none : (from : ℕ) (seen : List Bool) → Marked ids instances from id q seen → Adds ids instances from from id q 0 seen
+  adds-none from seen m = record { after = m; counts = omega arith }
+
+  -- one line more
+  pub adds-more : (from to added : ℕ) (seen : List Bool) (r : ℕ) (seen′ : List Bool) → q ≤ mostLines → Adds ids instances from to id q added seen
+      → r ≡ freshOf (getD seen (markOf (eqb (getD ids to 0) id) (getD instances to 0) q) false)
+      → seen′ ≡ set seen (markOf (eqb (getD ids to 0) id) (getD instances to 0) q) true → Adds ids instances from (to + 1) id q (added + r) seen′
+  adds-more from to added seen r seen′ small a e g =
+      let s = step ids instances to id q seen small (a .after) in
+      let c = s .counts in
+      let d = a .counts in
+      rw (add-one to) (record { after = rw g (s .after); counts = rw e (omega arith) })
+
+  -- lines of other kinds add none
+  pub adds-strangers : (from to : ℕ) (seen : List Bool) → from ≤ to → Strangers ids id from to → Marked ids instances from id q seen
+      → Adds ids instances from to id q 0 seen
+  adds-strangers from zero seen h s m = let e : from ≡ 0 = omega arith in rw e (adds-none 0 seen (rw e at m))
+  adds-strangers from (suc to) seen h s m =
+      ⊎-elim (λ e. rw e (adds-none (suc to) seen (rw e at m)))
+      (λ l.
+      let k : from ≤ to = le-of-suc-le-suc l in
+      let a = adds-strangers from to seen k (record { none-named = λ j b c. s .none-named j b (omega arith) }) m in
+      let d = s .none-named to k (omega arith) in
+      let c = a .counts in
+      let g = distinct-miss ids instances to id q (rw d) in
+      record {
+        after = record {
+          long = a .after .long;
+          spare = a .after .spare;
+          marks = λ i b. a .after .marks i b ∙ sym (placed-stranger ids instances to id i d);
+        };
+        counts = omega arith;
+      })
+      (eq-or-lt-of-le h)

@@ -1,20 +1,16 @@
--- Which kinds are short: 01's "fewer distinct instances in range placed than its quantity". The lines are two lists, ids and instances.
-use mathlib.Core.Path.{_≡_, refl, _∙_}
+-- Which kinds are short: fewer of their boxes are placed, each instance in range once, than their quantity. The lines are two lists, ids and instances.
+use mathlib.Core.Path.{_≡_}
 use mathlib.Core.Bool.{Bool, _&&_}
 use mathlib.Core.List.{List}
-use mathlib.Core.Logic.{⊎-elim}
-use Prim.Native.Nat.{ℕ, zero, suc, _<_, _≤_}
-use native.Mathlib.Nat.{eq-or-lt-of-le, le-of-suc-le-suc, not-suc-le-zero}
-use native.Mathlib.Omega.{arith}
+use Prim.Native.Nat.{ℕ, _<_, _≤_}
 use lib.Dec.{eqb, ltb}
-use lib.ListN.{length, getD, set, replicate, length-set}
-use lib.Seq.{getD-set-same, getD-set-other}
+use lib.ListN.{getD}
+use Rattle.lists.specs.Table.{table, table-at}
 use Rattle.domain.specs.Bounds.{mostLines}
 use Rattle.lists.specs.Below.{anyBelow, sumBelow}
 use Rattle.domain.specs.Refusals.{when}
 use Rattle.sheet.specs.declared.Line.{Line}
 use Rattle.sheet.specs.Sheets.{noLine}
-use Rattle.plan_unplaced.specs.declared.Names.{Names}
 
 -- line j places instance i of the kind with this id
 unfoldable pub places : List ℕ → List ℕ → ℕ → ℕ → ℕ → Bool
@@ -37,49 +33,26 @@ unfoldable pub isShort : List ℕ → List ℕ → ℕ → ℕ → ℕ → Bool
 isShort ids instances n id quantity = ltb (distinctPlaced ids instances n id quantity) quantity
 
 -- ---- the two lists of a list of lines: those of the first n, and 0 past them
+
+abbrev pub idAt : List Line → ℕ → ℕ
+idAt lines j = getD lines j noLine .id
+
+abbrev pub instanceAt : List Line → ℕ → ℕ
+instanceAt lines j = getD lines j noLine .instance
+
+pub record Names : Type 0 where
+  pub ids : List ℕ
+  pub instances : List ℕ
+
 unfoldable pub namesOf : List Line → ℕ → Names
-namesOf lines zero = record { ids = replicate mostLines 0; instances = replicate mostLines 0 }
-namesOf lines (suc n) =
-    record {
-      ids = set (namesOf lines n .ids) n (getD lines n noLine .id);
-      instances = set (namesOf lines n .instances) n (getD lines n noLine .instance);
-    }
+namesOf lines n = record { ids = table 0 mostLines (idAt lines) n; instances = table 0 mostLines (instanceAt lines) n }
 
 -- what the two lists have at j
 pub record Named (lines : List Line) (n j : ℕ) : Type 0 where
-  pub id-is : getD (namesOf lines n .ids) j 0 ≡ getD lines j noLine .id
-  pub instance-is : getD (namesOf lines n .instances) j 0 ≡ getD lines j noLine .instance
-
-pub record Long (names : Names) : Type 0 where
-  pub ids-long : length (names .ids) ≡ mostLines
-  pub instances-long : length (names .instances) ≡ mostLines
-
-long : (lines : List Line) (n : ℕ) → Long (namesOf lines n)
-unfolding namesOf
-long lines zero = record { ids-long = refl; instances-long = refl }
-long lines (suc n) =
-    let h = long lines n in
-    record { ids-long = simp length-set (h .ids-long); instances-long = simp length-set (h .instances-long) }
-
--- a store at n leaves what is before it
-set-before : (l : List ℕ) (n j v : ℕ) → j < n → getD (set l n v) j 0 ≡ getD l j 0
-set-before l n j v h = getD-set-other l n j v 0 (λ e. omega arith)
+  pub id-is : getD (namesOf lines n .ids) j 0 ≡ idAt lines j
+  pub instance-is : getD (namesOf lines n .instances) j 0 ≡ instanceAt lines j
 
 pub named : (lines : List Line) (n j : ℕ) → n ≤ mostLines → j < n → Named lines n j
 unfolding namesOf
-named lines zero j few l = absurd (not-suc-le-zero l)
-named lines (suc n) j few l =
-    let g = long lines n in
-    ⊎-elim
-    (λ e.
-    record {
-      id-is = rw e (getD-set-same (namesOf lines n .ids) n (getD lines n noLine .id) 0 (omega arith));
-      instance-is = rw e (getD-set-same (namesOf lines n .instances) n (getD lines n noLine .instance) 0 (omega arith));
-    })
-    (λ m.
-    let h = named lines n j (omega arith) m in
-    record {
-      id-is = set-before (namesOf lines n .ids) n j (getD lines n noLine .id) m ∙ h .id-is;
-      instance-is = set-before (namesOf lines n .instances) n j (getD lines n noLine .instance) m ∙ h .instance-is;
-    })
-    (eq-or-lt-of-le (le-of-suc-le-suc l))
+named lines n j few l =
+    record { id-is = table-at 0 mostLines (idAt lines) n j 0 few l; instance-is = table-at 0 mostLines (instanceAt lines) n j 0 few l }

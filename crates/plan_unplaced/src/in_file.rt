@@ -5,11 +5,14 @@ ghost use Prim.Native.Nat.{_≤_};
 ghost use Rattle.domain.specs.Bounds.{mostKinds, mostLines};
 ghost use Rattle.lists.specs.Table.{table};
 ghost use Rattle.plan_unplaced.specs.Left.{shortKind, leftAfter, leftOf};
-ghost use Rattle.plan_unplaced.specs.InFile.{kindsIn};
+ghost use Rattle.file_read.specs.Reading.{sheetOf};
+ghost use Rattle.file_accept.specs.Accept.{Taken};
+ghost use Rattle.plan_unplaced.specs.InFile.{kindsIn, Names, fileUnplaced};
 use crate::Left;
 use crate::is_short;
 use crate::no_left;
 use crate::push_if;
+use file_accept::Accepted;
 use file_read::records;
 
 // Which of the first m kinds of a file are short.
@@ -64,4 +67,39 @@ pub fn left_in(
     }
     let flags = flags_in(f, m, ids, instances, n);
     listed_in(f, m, &flags)
+}
+
+// The ids and the instances of a file's lines.
+fn line_names(
+    f: &[u8],
+    a: Accepted,
+    ids: &mut [u32; domain::MOST_LINES],
+    instances: &mut [u32; domain::MOST_LINES],
+)
+    requires { ⌜ Taken (now f) a ⌝ }
+    ensures { λ _. ⌜ Names (sheetOf (now (f .entry)) .lines) (a .lines) (now (ids .entry)) (now (instances .entry))
+        (now (ids .exit)) (now (instances .exit)) ⌝ }
+{
+    let n = a.lines;
+    let mut i = 0;
+    while i < n {
+        let l = records::line_in(f, a.start, i);
+        ids[i] = l.id;
+        instances[i] = l.instance;
+        i += 1;
+    }
+}
+
+// The unplaced list of a load file by its own lines; what it lists as unplaced itself is tested and left aside. Refused as reading it is.
+pub fn unplaced_list(file: &[u8]) -> Left
+    ensures { λ r. ⌜ r ≡ fileUnplaced (now (file .entry)) ⌝ }
+{
+    let a = file_accept::accept(file);
+    if a.refused != 0 {
+        return no_left(a.refused);
+    }
+    let mut ids = [0u32; domain::MOST_LINES];
+    let mut instances = [0u32; domain::MOST_LINES];
+    line_names(file, a, &mut ids, &mut instances);
+    left_in(file, a.kinds, &ids, &instances, a.lines)
 }

@@ -4,7 +4,7 @@ use mathlib.Core.Path.{_≡_, refl, sym, _∙_, ap}
 use mathlib.Core.Bool.{Bool, true, false, not, cond, _&&_, _||_}
 use mathlib.Core.Logic.{⊎-elim}
 use mathlib.Core.List.{List, [], _∷_, _++_, map, List·Permᴰ, List·Permᴰ·nil, List·Permᴰ·cons, List·Permᴰ·swap, List·Permᴰ·trans, Permᴰ·refl, Permᴰ·symm}
-use mathlib.Core.List.{Permᴰ·middle, Permᴰ·append-nil}
+use mathlib.Core.List.{Permᴰ·middle, Permᴰ·append-nil, map-append}
 use Prim.Native.Nat.{ℕ, zero, suc, _<_, _≤_, suc-le-suc}
 use native.Mathlib.Nat.{not-suc-le-zero, le-of-suc-le-suc, eq-or-lt-of-le}
 use native.Mathlib.Omega.{arith}
@@ -18,10 +18,10 @@ use Rattle.domain.specs.Bounds.{mostBoxes}
 use Rattle.measures.specs.declared.Kind.{Kind}
 use Rattle.plan_boxes.specs.declared.Instance.{Instance}
 use Rattle.plan_boxes.specs.Turns.{turnOf}
-use Rattle.lists.specs.Table.{table-length}
-use Rattle.plan_boxes.specs.Listing.{noInstance, atMostAll, listingOf, listing-at}
-use Rattle.point_run.specs.Order.{volumeOf, insert, fallingOf, fallingBoxes}
-use Rattle.point_run.specs.Insert.{insert-length, insert-all, falling-length, falling-below, map-length}
+use Rattle.plan_boxes.specs.Listing.{listingOf}
+use Rattle.point_order.specs.Order.{insert, fallingOf}
+use Rattle.point_order.specs.Insert.{insert-length, insert-all, falling-length, falling-below}
+use Rattle.point_run.specs.Order.{volumeOf, fallingBoxes}
 
 -- the places of the listing, in its order
 unfoldable pub upTo : ℕ → List ℕ
@@ -75,21 +75,16 @@ up-at (suc n) i l =
     (eq-or-lt-of-le (le-of-suc-le-suc l))
 
 -- the boxes at these places are the listing
-pub listing-is : (kinds : List Kind) (n : ℕ) → n ≤ mostBoxes → take n (listingOf kinds n) ≡ map (turnOf kinds) (upTo n)
-unfolding turnOf listingOf
-listing-is kinds n few =
-    let long : length (take n (listingOf kinds n)) ≡ n = length-take-le n (listingOf kinds n)
-    (rw (table-length noInstance mostBoxes (turnOf kinds) (atMostAll n)) few) in
-    ext-getD noInstance (take n (listingOf kinds n)) (map (turnOf kinds) (upTo n)) (long ∙ sym (map-length (turnOf kinds) (upTo n) ∙ up-length n))
-    (λ i l.
-    let h : i < n = rw long at l in
-    getD-take n (listingOf kinds n) i noInstance h
-    ∙ (listing-at kinds n i few h ∙ sym (List·getD-map (turnOf kinds) (upTo n) i 0 ∙ ap (turnOf kinds) (up-at n i h))))
+listing-is : (kinds : List Kind) (n : ℕ) → listingOf kinds n ≡ map (turnOf kinds) (upTo n)
+unfolding listingOf upTo
+listing-is kinds zero = refl
+listing-is kinds (suc n) =
+    ap (λ (l : List Instance). l ++ (turnOf kinds n ∷ [])) (listing-is kinds n) ∙ sym (map-append (turnOf kinds) (upTo n) (n ∷ []))
 
 -- the boxes that a run takes are those of the listing
-pub falling-boxes-perm : (kinds : List Kind) (n : ℕ) → n ≤ mostBoxes → List·Permᴰ (fallingBoxes kinds n) (take n (listingOf kinds n))
+pub falling-boxes-perm : (kinds : List Kind) (n : ℕ) → List·Permᴰ (fallingBoxes kinds n) (listingOf kinds n)
 unfolding fallingBoxes
-falling-boxes-perm kinds n few = rw (listing-is kinds n few) (map-perm (turnOf kinds) (falling-perm (volumeOf kinds) n))
+falling-boxes-perm kinds n = rw (listing-is kinds n) (map-perm (turnOf kinds) (falling-perm (volumeOf kinds) n))
 
 -- ---- in order
 

@@ -23,7 +23,6 @@ use Rattle.plan_unplaced.specs.declared.Left.{Left}
 use Rattle.plan_unplaced.specs.Left.{leftAfter, leftOf, left-fair}
 use Rattle.plan_boxes.specs.declared.Instance.{Instance}
 use Rattle.plan_boxes.specs.Listing.{noInstance}
-use Rattle.point_stow.specs.declared.Stowed.{Stowed}
 use Rattle.point_place.specs.declared.Tried.{Tried}
 use Rattle.point_state.specs.declared.ExtremePointSet.{ExtremePointSet}
 use Rattle.lists.specs.Bools.{cond-cases}
@@ -32,11 +31,10 @@ use Rattle.point_grow.specs.Grow.{afterBox}
 use Rattle.point_state.specs.Fresh.{startOf, freshOf}
 use Rattle.point_place.specs.Place.{stood, refusalOf, placedBy, triedOf}
 use Rattle.point_state.specs.Boxes.{totalMass}
-use Rattle.point_stow.specs.Stow.{Attempt, attemptOf, turnOf, stowedBy}
+use Rattle.point_stow.specs.Stow.{Stowed, Attempt, attemptOf, turnOf, stowedBy}
 use Rattle.point_step.specs.Pick.{tooHeavy}
-use Rattle.plan_sheet.specs.declared.Plan.{Plan}
 use Rattle.plan_sheet.specs.Boxes.{smaller}
-use Rattle.plan_sheet.specs.Plans.{leftBy, plannedOf}
+use Rattle.plan_sheet.specs.Plans.{Plan, leftBy, plannedOf}
 use Rattle.point_run.specs.Order.{fallingBoxes}
 use Rattle.point_run.specs.Runs.{planFrom, runOf, epPackingOf, smaller-le}
 use Rattle.point_run.specs.Kinds.{boxes-few}

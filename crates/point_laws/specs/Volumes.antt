@@ -21,7 +21,8 @@ use Rattle.sheet.specs.declared.Sheet.{Sheet}
 use Rattle.sheet.specs.Sheets.{kindAt, boxesIn}
 use Rattle.sheet.specs.Accepted.{Accepted}
 use Rattle.plan_boxes.specs.Turns.{turnOf}
-use Rattle.point_run.specs.Order.{volumeOf, fallingOf}
+use Rattle.point_order.specs.Order.{fallingOf}
+use Rattle.point_run.specs.Order.{volumeOf}
 use Rattle.point_run.specs.Kinds.{turn-kind}
 use Rattle.point_laws.specs.Falling.{upTo, Ordered, falling-ordered, only-falling}
 

@@ -7,7 +7,6 @@ use Rattle.sheet.specs.Sheets.{boxesIn}
 use Rattle.sheet.specs.Accepted.{Accepted}
 use Rattle.plan_boxes.specs.Turns.{turnOf, turn-right}
 use Rattle.plan_boxes.specs.Orders.{some-boxes, boxes-are}
-use Rattle.point_run.specs.Insert.{Turned}
 
 pub boxes-few : (order : Sheet) → Accepted order → boxesIn (order .kinds) (order .many .kinds) ≤ mostBoxes
 boxes-few order a = let e = boxes-are order a in let f = a .boxes-few in omega arith
@@ -17,6 +16,3 @@ pub turn-kind : (order : Sheet) → Accepted order → (t : ℕ) → t < boxesIn
 turn-kind order a t l =
     let e = boxes-are order a in
     turn-right (order .kinds) (order .many .kinds) (some-boxes order a) t (omega arith) .kind-is
-
-pub turns-in : (order : Sheet) → Accepted order → Turned (order .kinds) (boxesIn (order .kinds) (order .many .kinds))
-turns-in order a = record { turn-in = λ t l. let k = turn-kind order a t l in let f = a .few-of .kinds in omega arith }

@@ -1,4 +1,4 @@
--- A run into lent columns: what stands in them after each box, and that it is the plan of the definition. RULES: First placer: run · Lent memory
+-- A run into lent columns: what stands in them after each box. RULES: First placer: run · Lent memory
 use mathlib.Core.Path.{_≡_, refl, sym, _∙_, ap}
 use mathlib.Core.Bool.{Bool, true, false, cond}
 use mathlib.Core.List.{List, [], _∷_}
@@ -11,7 +11,7 @@ use lib.Seq.{getD-set-same, getD-set-other}
 use lib.Ieee.{Float}
 use Rattle.floats.specs.Ops.{x, y, z, none, _⊕_, _⊘_}
 use Rattle.lists.specs.Table.{filled, filled-same}
-use Rattle.domain.specs.Bounds.{mostBoxes, mostLines}
+use Rattle.domain.specs.Bounds.{mostKinds, mostBoxes, mostLines}
 use Rattle.measures.specs.declared.Container.{Container}
 use Rattle.measures.specs.declared.Kind.{Kind}
 use Rattle.measures.specs.Faults.{kindFault}
@@ -21,9 +21,7 @@ use Rattle.plan_boxes.specs.declared.Instance.{Instance}
 use Rattle.plan_boxes.specs.Listing.{noInstance}
 use Rattle.sheet.specs.declared.Line.{Line}
 use Rattle.sheet.specs.Sheets.{noKind}
-use Rattle.plan_sheet.specs.declared.Told.{Told}
-use Rattle.plan_sheet.specs.Laid.{planIn, toldOf, laid}
-use Rattle.sheet.specs.Columns.{Columns, columns, idOf, instanceOf, orientationOf, xOf, yOf, zOf}
+use Rattle.sheet.specs.Columns.{Columns, columns}
 use Rattle.point_state.specs.declared.ExtremePointSet.{ExtremePointSet}
 use Rattle.point_state.specs.declared.Label.{Label}
 use Rattle.point_state.specs.Triples.{cells, three, three-other, triple-in, tripleIn}
@@ -33,11 +31,10 @@ use Rattle.point_grow.specs.Grow.{putBox, afterBox}
 use Rattle.point_place.specs.Place.{labelOf}
 use Rattle.point_step.specs.declared.Stood.{Stood}
 use Rattle.point_step.specs.Step.{Stores, stores, StepIs}
-use Rattle.point_stow.specs.declared.Stowed.{Stowed}
-use Rattle.point_stow.specs.Stow.{stowedBy}
+use Rattle.point_stow.specs.Stow.{Stowed, stowedBy, turnOf}
 use Rattle.point_stow.specs.Turns.{Steady, fresh-empty, pickAt, stow-more, turn-none, turn-some, step-stays, step-state, step-steady}
-use Rattle.point_run.specs.declared.lay.Stand.{Stand}
-use Rattle.point_run.specs.Runs.{lineBy, lineOf, epPackingOf}
+use Rattle.point_run.specs.declared.Stand.{Stand}
+use Rattle.point_run.specs.Runs.{lineBy}
 
 -- a cell of each for each of the first `held` boxes, the others as they were
 pub record Filled (old : Columns) (labels : List Label) (boxes : List Float) (orientations : List ℕ) (held : ℕ) (now : Columns) : Type 0 where
@@ -58,16 +55,6 @@ pub record EachIs (c : Container) (kinds : List Kind) (items : List Instance) (n
   pub filled-is :
       Filled old (stowed c kinds items n .next .labels) (stowed c kinds items n .next .boxes) (stowed c kinds items n .orientations)
       (stowed c kinds items n .next .held) now
-
--- what the call comes to: what is told of the plan, and its lines in the columns
-pub record LayIs (f : List ℕ) (consider : ℕ) (old : Columns) (r : Told) (now : Columns) : Type 0 where
-  pub told-is : r ≡ toldOf (planIn epPackingOf f consider)
-  pub ids-are : now .ids ≡ laid idOf (old .ids) (planIn epPackingOf f consider)
-  pub instances-are : now .instances ≡ laid instanceOf (old .instances) (planIn epPackingOf f consider)
-  pub turns-are : now .turns ≡ laid orientationOf (old .turns) (planIn epPackingOf f consider)
-  pub xs-are : now .xs ≡ laid xOf (old .xs) (planIn epPackingOf f consider)
-  pub ys-are : now .ys ≡ laid yOf (old .ys) (planIn epPackingOf f consider)
-  pub zs-are : now .zs ≡ laid zOf (old .zs) (planIn epPackingOf f consider)
 
 -- ---- one box more
 
@@ -116,9 +103,10 @@ abbrev pub state : Container → ℕ → ℕ → List Float → List Float → L
 state c live held points boxes labels = record { container = c; live = live; held = held; points = points; boxes = boxes; labels = labels }
 
 abbrev pub soFar : ExtremePointSet → List ℕ → Stowed
-soFar s orientations = record { refused = 0; next = s; orientations = orientations }
+soFar s orientations = record { next = s; orientations = orientations }
 
-pub record Holds (c : Container) (kinds : List Kind) (items : List Instance) (i live held : ℕ) (points boxes walls : List Float) (mass vol : Float)
+-- a box of kind `last` finds no place any more, whichever copy it is; with none in the store it says nothing
+pub record Holds (c : Container) (kinds : List Kind) (items : List Instance) (i live held last : ℕ) (points boxes walls : List Float) (mass vol : Float)
     (old now : Columns)
     : Type 0 where
   pub labels : List Label
@@ -128,10 +116,14 @@ pub record Holds (c : Container) (kinds : List Kind) (items : List Instance) (i 
   pub long : length orientations ≡ mostBoxes
   pub volume-is : vol ≡ volumeBelow boxes held
   pub filled-is : Filled old labels boxes orientations held now
+  pub stuck : last < mostKinds → (copy : ℕ) → turnOf (getD kinds last noKind) copy (stowed c kinds items i) ≡ stowed c kinds items i
+
+past : mostKinds < mostKinds → ⊥
+past l = omega arith
 
 -- the empty container
 pub holds-none : (c : Container) (kinds : List Kind) (items : List Instance) (points : List Float) (old : Columns) → points ≡ startOf c false .points
-    → Holds c kinds items 0 1 0 points (replicate cells none) (replicate cells none) none none old old
+    → Holds c kinds items 0 1 0 mostKinds points (replicate cells none) (replicate cells none) none none old old
 unfolding stowedBy startOf volumeBelow filled
 holds-none c kinds items points old e =
     let h = fresh-empty c false in
@@ -144,10 +136,11 @@ holds-none c kinds items points old e =
       long = length-replicate {A = ℕ} mostBoxes 0;
       volume-is = refl;
       filled-is = record { ids-are = refl; instances-are = refl; turns-are = refl; xs-are = refl; ys-are = refl; zs-are = refl };
+      stuck = λ l copy. absurd (past l);
     })
 
-module _ (c : Container) (kinds : List Kind) (items : List Instance) (i live held : ℕ) (points boxes walls : List Float) (hints : List ℕ) (mass vol : Float)
-    (old now : Columns) (h : Holds c kinds items i live held points boxes walls mass vol old now) (room : held < mostBoxes) where
+module _ (c : Container) (kinds : List Kind) (items : List Instance) (i live held last : ℕ) (points boxes walls : List Float) (hints : List ℕ)
+    (mass vol : Float) (old now : Columns) (h : Holds c kinds items i live held last points boxes walls mass vol old now) (room : held < mostBoxes) where
   abbrev item : Instance
   item = getD items i noInstance
 
@@ -157,21 +150,42 @@ module _ (c : Container) (kinds : List Kind) (items : List Instance) (i live hel
   abbrev s : ExtremePointSet
   s = state c live held points boxes (h .labels)
 
+  -- the box is like one that found no place since the last that did: all stays
+  pub holds-skip : item .kind ≡ last → last < mostKinds → Holds c kinds items (i + 1) live held last points boxes walls mass vol old now
+  holds-skip e l =
+      record {
+        labels = h .labels;
+        orientations = h .orientations;
+        same = h .same ∙ sym stays;
+        steady = h .steady;
+        long = h .long;
+        volume-is = h .volume-is;
+        filled-is = h .filled-is;
+        stuck = rw stays (h .stuck);
+      }
+    where
+      stays : stowed c kinds items (i + 1) ≡ stowed c kinds items i
+      stays = stow-more _ kinds items i (stowed c kinds items i) refl ∙ rw e (h .stuck l (item .instance))
+
   module _ (right : kindFault kind false ≡ 0) (r : Stood) (t : Stores) (k : StepIs c live held mass kind (stores points boxes walls hints) r t) where
-    -- the box does not stand
-    pub holds-still : r .found ≡ false → Holds c kinds items (i + 1) live held (t .points) (t .boxes) (t .walls) mass vol old now
+    -- the box does not stand, and neither does another of its kind
+    pub holds-still : r .found ≡ false → Holds c kinds items (i + 1) live held (item .kind) (t .points) (t .boxes) (t .walls) mass vol old now
     holds-still e =
         let y = step-stays s walls hints mass kind (h .steady) room r t k e in
+        let none-stands : (copy : ℕ) → turnOf kind copy (soFar s (h .orientations)) ≡ soFar s (h .orientations) =
+        λ copy. turn-none s walls hints mass kind (h .steady) room copy (h .orientations) right (sym (k .found-is) ∙ e) in
+        let same-then : soFar s (h .orientations) ≡ stowed c kinds items (i + 1) =
+        sym (stow-more _ kinds items i (soFar s (h .orientations)) (h .same) ∙ none-stands (item .instance)) in
         rw (y .points-stay, y .boxes-stay, y .walls-stay)
         (record {
           labels = h .labels;
           orientations = h .orientations;
-          same = sym (stow-more _ kinds items i (soFar s (h .orientations)) (h .same)
-              ∙ turn-none s walls hints mass kind (h .steady) room (item .instance) (h .orientations) right (sym (k .found-is) ∙ e));
+          same = same-then;
           steady = h .steady;
           long = h .long;
           volume-is = h .volume-is;
           filled-is = h .filled-is;
+          stuck = λ _ copy. rw (← same-then) (none-stands copy);
         })
 
     -- it stands: a cell more of each column
@@ -217,7 +231,7 @@ module _ (c : Container) (kinds : List Kind) (items : List Instance) (i live hel
         })
 
     pub holds-next : (m v : Float) → r .found ≡ true → m ≡ massWith mass (kind .massed) (kind .mass) → v ≡ vol ⊕ volume (tripleIn (t .boxes) (2 * held + 1))
-        → Holds c kinds items (i + 1) (r .live) (held + 1) (t .points) (t .boxes) (t .walls) m v old cellsWith
+        → Holds c kinds items (i + 1) (r .live) (held + 1) mostKinds (t .points) (t .boxes) (t .walls) m v old cellsWith
     holds-next m v e g w =
         let b = box-is e in
         let at = three points (pickAt s walls hints mass kind (h .steady) room .index) in
@@ -234,15 +248,32 @@ module _ (c : Container) (kinds : List Kind) (items : List Instance) (i live hel
           volume-is = w ∙ rw (triple-in (t .boxes) (2 * held + 1) (omega arith), b)
               (volume-more (h .labels) boxes (h .orientations) held label at size (r .orientation) vol (h .volume-is));
           filled-is = cells-with e;
+          stuck = λ l copy. absurd (past l);
         }
       where
         stood-by : (q u : ExtremePointSet) (turns : List ℕ) (n o w : ℕ) → q ≡ u → o ≡ w → soFar q (set turns n o) ≡ soFar u (set turns n w)
         stood-by q u turns n o w e f = rw (e, f)
 
+  -- the same of a kind, a copy and a place that were read where they are used
+  module _ (read : Kind) (copy : ℕ) (r : Stood) (t : Stores) (k : StepIs c live held mass read (stores points boxes walls hints) r t) (read-is : read ≡ kind)
+      (right : kindFault kind false ≡ 0) where
+    step-of : StepIs c live held mass kind (stores points boxes walls hints) r t
+    step-of = rw (← read-is) k
+
+    pub still-read : (j : ℕ) → j ≡ item .kind → r .found ≡ false → Holds c kinds items (i + 1) live held j (t .points) (t .boxes) (t .walls) mass vol old now
+    still-read j g e = rw g (holds-still right r t step-of e)
+
+    pub next-read : (at : List Float) (m v : Float) → r .found ≡ true → copy ≡ item .instance → at ≡ tripleIn (t .boxes) (2 * held)
+        → m ≡ massWith mass (read .massed) (read .mass) → v ≡ vol ⊕ volume (tripleIn (t .boxes) (2 * held + 1))
+        → Holds c kinds items (i + 1) (r .live) (held + 1) mostKinds (t .points) (t .boxes) (t .walls) m v old
+        (columns (set (now .ids) held (read .id)) (set (now .instances) held copy) (set (now .turns) held (r .orientation)) (set (now .xs) held (x at))
+        (set (now .ys) held (y at)) (set (now .zs) held (z at)))
+    next-read at m v e g p q w = rw (p, g, read-is) (holds-next right r t step-of m v e (rw read-is at q) w)
+
 -- after the last box
-pub holds-all : (c : Container) (kinds : List Kind) (items : List Instance) (n live held : ℕ) (points boxes walls : List Float) (mass vol : Float)
+pub holds-all : (c : Container) (kinds : List Kind) (items : List Instance) (n live held last : ℕ) (points boxes walls : List Float) (mass vol : Float)
     (old now : Columns)
-    → Holds c kinds items n live held points boxes walls mass vol old now → EachIs c kinds items n old (record { held = held; volume = vol }) now
-holds-all c kinds items n live held points boxes walls mass vol old now h =
+    → Holds c kinds items n live held last points boxes walls mass vol old now → EachIs c kinds items n old (record { held = held; volume = vol }) now
+holds-all c kinds items n live held last points boxes walls mass vol old now h =
     let e = h .same in
     record { held-is = rw (← e); volume-is = rw (← e) (h .volume-is); filled-is = rw (← e) (h .filled-is) }

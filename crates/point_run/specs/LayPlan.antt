@@ -22,45 +22,26 @@ use Rattle.sheet.specs.Sheets.{noLine, blankLine, blankKind, boxesIn, sheetRefu
 use Rattle.sheet.specs.Accepted.{Accepted, accepted}
 use Rattle.plan_unplaced.specs.Left.{leftOf, left-fair}
 use Rattle.plan_boxes.specs.declared.Instance.{Instance}
-use Rattle.plan_sheet.specs.declared.Plan.{Plan}
 use Rattle.plan_sheet.specs.declared.Told.{Told}
 use Rattle.plan_sheet.specs.Boxes.{smaller, smaller-le}
-use Rattle.plan_sheet.specs.Plans.{leftBy, refusedPlan, plannedOf}
+use Rattle.plan_sheet.specs.Plans.{Plan, leftBy, refusedPlan, plannedOf}
 use Rattle.sheet.specs.Columns.{idOf, instanceOf, orientationOf, xOf, yOf, zOf}
-use Rattle.plan_sheet.specs.Laid.{planIn, toldOf, laid}
+use Rattle.plan_sheet.specs.Laid.{planIn, toldOf, laid, Lays}
+use Rattle.plan_sheet.specs.LaidLaws.{laid-all}
 use Rattle.file_read.specs.Form.{rightShape, countsOf}
 use Rattle.file_read.specs.Reading.{kindFrom, kindPlace, kindsOf, sheetOf, refusalOf}
+use Rattle.file_read.specs.Refusal.{sheet-sound}
 use Rattle.file_read.specs.Records.{kindIn, Readable, bounds, kind-is, many-is}
 use Rattle.file_read.specs.Tables.{kinds-at}
 use Rattle.point_state.specs.Boxes.{volumeBelow}
 use Rattle.point_state.specs.Counts.{over, within-counts}
 use Rattle.point_state.specs.Fresh.{startOf, freshOf}
-use Rattle.point_stow.specs.declared.Stowed.{Stowed}
-use Rattle.point_stow.specs.Stow.{stowedBy, Listed, listed}
-use Rattle.point_run.specs.declared.lay.Stand.{Stand}
-use Rattle.point_run.specs.Order.{fallingBoxes}
-use Rattle.point_run.specs.Insert.{Turned}
-use Rattle.point_run.specs.Kinds.{boxes-few, turns-in}
-use Rattle.point_run.specs.Runs.{lineOf, planFrom, runOf, epPackingOf, run-is, run-within, run-accepted, run-stowed}
+use Rattle.point_stow.specs.Stow.{Stowed, stowedBy}
+use Rattle.point_run.specs.declared.Stand.{Stand}
+use Rattle.point_run.specs.Boxes.{boxesBy}
+use Rattle.point_run.specs.Runs.{lineOf, planFrom, runOf, epPackingOf, run-within, run-start}
 use Rattle.sheet.specs.Columns.{Columns}
-use Rattle.point_run.specs.Lay.{stowed, EachIs, LayIs}
-
--- ---- a refused file
-
-pub lay-refused : (f : List ℕ) (consider n : ℕ) (old : Columns) → refusalOf f ≡ n → (n ≡ 0 → ⊥)
-    → LayIs f consider old (record { refused = n; considered = 0; placed = 0; utilization = none }) old
-unfolding planIn laid filled refusedPlan
-lay-refused f consider n old e h =
-    let q = ne-eqb n 0 h in
-    record {
-      told-is = rw (e, q);
-      ids-are = rw (e, q);
-      instances-are = rw (e, q);
-      turns-are = rw (e, q);
-      xs-are = rw (e, q);
-      ys-are = rw (e, q);
-      zs-are = rw (e, q);
-    }
+use Rattle.point_run.specs.Lay.{stowed, EachIs}
 
 -- ---- the plan of lines that are few enough
 
@@ -87,86 +68,53 @@ module _ (c : Container) (kinds : List Kind) (m : ℕ) (g : Stowed) (n : ℕ) (f
 
 -- ---- an accepted file
 
--- its kinds, read one by one
-kinds-are : (f : List ℕ) → Readable f → table blankKind mostKinds (kindIn f) (countsOf f .kinds) ≡ sheetOf f .kinds
-unfolding sheetOf kindsOf
-kinds-are f r =
-    table-same blankKind mostKinds (kindIn f) (λ k. kindFrom f (kindPlace k)) (countsOf f .kinds)
-    (λ k l. kind-is f k r l ∙ kinds-at f (countsOf f .kinds) k (bounds f r .kinds) l)
-
-pub kinds-by : (f : List ℕ) (n : ℕ) → Readable f → n ≡ countsOf f .kinds → table blankKind mostKinds (kindIn f) n ≡ sheetOf f .kinds
-kinds-by f n r e = rw e (kinds-are f r)
-
-pub boxes-by : (f : List ℕ) (kinds : List Kind) (m : ℕ) → kinds ≡ sheetOf f .kinds → m ≡ countsOf f .kinds
-    → boxesIn kinds m ≡ boxesIn (sheetOf f .kinds) (sheetOf f .many .kinds)
-boxes-by f kinds m e g = rw (e, g, many-is f)
-
 module _ (f : List ℕ) (consider : ℕ) (e : refusalOf f ≡ 0) where
   abbrev order : Sheet
   order = sheetOf f
 
-  pub sheet-fair : sheetRefusal (sheetOf f) ≡ 0
-  unfolding refusalOf
-  sheet-fair = or-else-second (when (not (rightShape f)) 1) (sheetRefusal (sheetOf f)) e
+  sheet-fair : sheetRefusal order ≡ 0
+  sheet-fair = sheet-sound f e
 
-  pub taken-sheet : Accepted (sheetOf f)
-  taken-sheet = accepted (sheetOf f) sheet-fair
+  pub taken-sheet : Accepted order
+  taken-sheet = accepted order sheet-fair
 
-  module _ (all n : ℕ) (boxes : List Instance) (is-all : all ≡ boxesIn (order .kinds) (order .many .kinds)) (is-n : n ≡ smaller consider all)
-      (falls : take all boxes ≡ fallingBoxes (order .kinds) all) where
-    pub lay-listed : Listed (order .kinds) boxes n
-    lay-listed = listed order boxes n (run-accepted order consider all n boxes sheet-fair is-all is-n falls)
+  abbrev all : ℕ
+  all = boxesIn (order .kinds) (order .many .kinds)
 
-    stowed-is : stowed (order .container) (order .kinds) boxes n ≡ runOf (order .container) (order .kinds) all n
-    stowed-is = run-stowed order consider all n boxes sheet-fair is-all is-n falls
+  abbrev run : ℕ → Stowed
+  run n = stowed (order .container) (order .kinds) (boxesBy order) n
 
-    plan-is : planFrom (order .container) (order .kinds) (order .many .kinds) (stowed (order .container) (order .kinds) boxes n) n
-        ≡ planIn epPackingOf f consider
-    unfolding planIn
-    plan-is = rw (eq-eqb _ 0 e) (run-is order consider (sheetRefusal order) all n _ _ refl sheet-fair is-all is-n stowed-is refl)
+  run-is : (n : ℕ) → run n ≡ runOf (order .container) (order .kinds) all n
+  run-is n = run-start order all n taken-sheet
 
-    held-few : stowed (order .container) (order .kinds) boxes n .next .held ≤ mostLines
-    held-few = rw stowed-is (within-counts _ _ (run-within (order .container) (order .kinds) all n) .room)
+  -- what stands is the plan
+  plan-is : (n : ℕ) → n ≡ smaller consider all
+      → planFrom (order .container) (order .kinds) (order .many .kinds) (run n) n ≡ planIn epPackingOf f consider
+  unfolding planIn epPackingOf
+  plan-is n m = rw (eq-eqb (refusalOf f) 0 e, eq-eqb (sheetRefusal order) 0 sheet-fair, run-is n, m)
 
-    pub lay-taken : (old now : Columns) (r : Stand) (u : Float) → EachIs (order .container) (order .kinds) boxes n old r now
-        → u ≡ r .volume ⊘ volume (order .container .size)
-        → LayIs f consider old (record { refused = 0; considered = n; placed = r .held; utilization = u }) now
-    lay-taken old now r u k v =
-        let g = stowed (order .container) (order .kinds) boxes n in
-        let few = taken-sheet .few-of .kinds in
-        let c = order .container in
-        record {
-          told-is = rw (← plan-is, v, k .held-is, k .volume-is) (sym (plan-told c (order .kinds) (order .many .kinds) g n few held-few));
-          ids-are = k .filled-is .ids-are ∙ sym (lines idOf (old .ids));
-          instances-are = k .filled-is .instances-are ∙ sym (lines instanceOf (old .instances));
-          turns-are = k .filled-is .turns-are ∙ sym (lines orientationOf (old .turns));
-          xs-are = k .filled-is .xs-are ∙ sym (lines xOf (old .xs));
-          ys-are = k .filled-is .ys-are ∙ sym (lines yOf (old .ys));
-          zs-are = k .filled-is .zs-are ∙ sym (lines zOf (old .zs));
-        }
-      where
-        lines : {A : Type 0} (part : Line → A) (l : List A)
-            → laid part l (planIn epPackingOf f consider)
-            ≡ filled l (λ i. part (lineOf (stowed (order .container) (order .kinds) boxes n) i)) (stowed (order .container) (order .kinds) boxes n .next .held)
-        lines part l =
-            rw (← plan-is) (plan-laid (order .container) (order .kinds) (order .many .kinds) (stowed (order .container) (order .kinds) boxes n) n
-            (taken-sheet .few-of .kinds) held-few part l)
+  held-few : (n : ℕ) → run n .next .held ≤ mostLines
+  held-few n = rw (run-is n) (within-counts _ _ (run-within (order .container) (order .kinds) all n) .room)
 
--- ---- the same of what the calls hand on, which is equal to the sheet's
-
-module _ (f : List ℕ) (consider : ℕ) (e : refusalOf f ≡ 0) (kinds : List Kind) (all : ℕ) (k : kinds ≡ sheetOf f .kinds)
-    (a : all ≡ boxesIn (sheetOf f .kinds) (sheetOf f .many .kinds)) where
-  pub turned-by : (all ≤ mostBoxes) × Turned kinds all
-  turned-by = rw (k, a) (boxes-few (sheetOf f) (taken-sheet f consider e), turns-in (sheetOf f) (taken-sheet f consider e))
-
-  module _ (n : ℕ) (boxes : List Instance) (m : n ≡ smaller consider all) (falls : take all boxes ≡ fallingBoxes kinds all) where
-    pub listed-by : (n ≤ mostBoxes) × Listed kinds boxes n
-    listed-by =
-        let l : n ≤ all = rw m (smaller-le consider all) in
-        let few = turned-by .0 in
-        (omega arith, rw k (lay-listed f consider e all n boxes a m (rw k at falls)))
-
-    pub laid-by : (c : Container) (old now : Columns) (r : Stand) (u : Float) → c ≡ sheetOf f .container → EachIs c kinds boxes n old r now
-        → u ≡ r .volume ⊘ volume (c .size)
-        → LayIs f consider old (record { refused = 0; considered = n; placed = r .held; utilization = u }) now
-    laid-by c old now r u g h v = lay-taken f consider e all n boxes a m (rw k at falls) old now r u (rw (k, g) at h) (rw g at v)
+  pub laid-by : (n : ℕ) (c : Container) (old now : Columns) (r : Stand) (u : Float) → n ≡ smaller consider all → c ≡ order .container
+      → EachIs c (order .kinds) (boxesBy order) n old r now → u ≡ r .volume ⊘ volume (c .size)
+      → Lays (planIn epPackingOf f consider) (record { refused = 0; considered = n; placed = r .held; utilization = u }) old now
+  laid-by n c old now r u m g h v =
+      let k = rw g at h in
+      let w = rw g at v in
+      let p = plan-is n m in
+      let few = taken-sheet .few-of .kinds in
+      record {
+        told-is = rw (← p, w, k .held-is, k .volume-is) (sym (plan-told (order .container) (order .kinds) (order .many .kinds) (run n) n few (held-few n)));
+        columns-are =
+            laid-all (planIn epPackingOf f consider) old now (k .filled-is .ids-are ∙ sym (lines p idOf (old .ids)))
+            (k .filled-is .instances-are ∙ sym (lines p instanceOf (old .instances))) (k .filled-is .turns-are ∙ sym (lines p orientationOf (old .turns)))
+            (k .filled-is .xs-are ∙ sym (lines p xOf (old .xs))) (k .filled-is .ys-are ∙ sym (lines p yOf (old .ys)))
+            (k .filled-is .zs-are ∙ sym (lines p zOf (old .zs)));
+      }
+    where
+      lines : planFrom (order .container) (order .kinds) (order .many .kinds) (run n) n ≡ planIn epPackingOf f consider
+          → {A : Type 0} (part : Line → A) (l : List A)
+          → laid part l (planIn epPackingOf f consider) ≡ filled l (λ i. part (lineOf (run n) i)) (run n .next .held)
+      lines p part l =
+          rw (← p) (plan-laid (order .container) (order .kinds) (order .many .kinds) (run n) n (taken-sheet .few-of .kinds) (held-few n) part l)

@@ -1,6 +1,6 @@
 -- The extreme-point placer's run: the order of the boxes, and the plan.
 pub mod Order
-pub mod Insert
+pub mod Boxes
 pub mod Kinds
 pub mod Runs
 pub mod Lay

@@ -1,10 +1,11 @@
 // The choice of a point: one scan over the stored points. The hints only save time: each is the box that blocked the point the
 // last time.
 ghost use mathlib.Core.Path.{_≡_};
-ghost use mathlib.Core.Bool.{cond};
+ghost use mathlib.Core.Bool.{cond, not, _&&_};
 ghost use Prim.Native.Nat.{_≤_, _<_};
 ghost use Rattle.domain.specs.Bounds.{mostBoxes};
-ghost use Rattle.point_state.specs.Triples.{mostPoints};
+ghost use Rattle.point_state.specs.Triples.{mostPoints, three};
+ghost use Rattle.point_fit.specs.Sooner.{sooner};
 ghost use Rattle.point_scan.specs.Walls.{TakesIs, ScanIs, ScannedIs, bestIn};
 use crate::Choice;
 use crate::fit::fit;
@@ -16,6 +17,18 @@ use point_state::CELLS;
 use point_state::ExtremePointSet;
 use point_state::POINTS;
 use point_state::triple_at;
+
+// Whether a choice was made, point k, and the point v does not stand before it.
+fn behind(points: &[f64; CELLS], v: [f64; 3], k: usize, found: bool) -> bool
+    requires { ⌜ k < mostPoints ⌝ }
+    ensures { λ r. ⌜ r ≡ (found && not (sooner v (three (now (points .entry)) k))) ⌝ }
+{
+    if !found {
+        return false;
+    }
+    let w = triple_at(points, k);
+    !sooner(v, w)
+}
 
 // Whether point i takes the place of the choice so far, which is point k if one was found. A point that does not stand before
 // it is not tested.
@@ -34,8 +47,7 @@ fn takes(
     ensures { λ r. ⌜ TakesIs room (now (walls .entry)) held size (now (points .entry)) i found k (now (hints .entry)) r (now (hints .exit)) ⌝ }
 {
     let v = triple_at(points, i);
-    let w = triple_at(points, k);
-    if found & !sooner(v, w) {
+    if behind(points, v, k, found) {
         return false;
     }
     let f = fit(room, walls, held, hints[i], v, size);

@@ -24,8 +24,7 @@ use Rattle.point_scan.specs.Choose.{bestOf, scan-found}
 use Rattle.point_place.specs.declared.Tried.{Tried}
 use Rattle.point_place.specs.Place.{stood, refusalOf, placedBy, triedOf, ready}
 use Rattle.point_step.specs.Pick.{tooHeavy}
-use Rattle.point_stow.specs.declared.Stowed.{Stowed}
-use Rattle.point_stow.specs.Stow.{Attempt, attemptOf, turnOf, stowedBy}
+use Rattle.point_stow.specs.Stow.{Stowed, Attempt, attemptOf, turnOf, stowedBy}
 
 module _ (P : ExtremePointSet → Type 0) (kept : (s : ExtremePointSet) (kind : Kind) (instance o : ℕ) → P s → P (triedOf s kind instance o .next)) where
   attempt-keeps : (s : ExtremePointSet) (kind : Kind) (instance o : ℕ) → P s → P (attemptOf s kind instance o .tried .next)

@@ -1,34 +1,32 @@
 -- Boxes placed in a given order, as a run does once it has sorted them. RULES: First placer: run
-use mathlib.Core.Path.{_≡_, refl}
-use mathlib.Core.Bool.{Bool, true, false, not, cond}
+use mathlib.Core.Path.{_≡_}
+use mathlib.Core.Bool.{Bool, false, cond}
 use mathlib.Core.List.{List}
 use Prim.Native.Nat.{ℕ, zero, suc, _<_, _≤_}
 use native.Mathlib.Omega.{arith}
-use borrow.Author.Tests.{ltb-true, ltb-false}
-use lib.Dec.{ltb, eqb}
 use lib.ListN.{length, getD, set, replicate}
 use Rattle.floats.specs.Ops.{nowhere}
-use Rattle.lists.specs.Bools.{not-true-of}
-use Rattle.lists.specs.Below.{anyBelow, any-none}
 use Rattle.domain.specs.Bounds.{mostKinds, mostBoxes}
-use Rattle.domain.specs.Refusals.{when, orElse}
-use Rattle.domain.specs.Laws.{or-else-first, or-else-second, when-none}
+use Rattle.domain.specs.Refusals.{orElse}
 use Rattle.measures.specs.declared.Kind.{Kind}
 use Rattle.measures.specs.Orders.{shareOf}
 use Rattle.measures.specs.Faults.{kindFault}
 use Rattle.sheet.specs.declared.Sheet.{Sheet}
-use Rattle.sheet.specs.Sheets.{noKind, sheetRefusal}
-use Rattle.sheet.specs.Accepted.{Sound, accepted}
+use Rattle.sheet.specs.Sheets.{noKind}
+use Rattle.sheet.specs.Accepted.{Accepted, Sound}
 use Rattle.plan_boxes.specs.declared.Instance.{Instance}
 use Rattle.plan_boxes.specs.Listing.{noInstance}
 use Rattle.point_state.specs.declared.ExtremePointSet.{ExtremePointSet}
 use Rattle.point_state.specs.Boxes.{totalMass}
-use Rattle.point_state.specs.Fresh.{freshOf}
 use Rattle.point_place.specs.declared.Tried.{Tried}
-use Rattle.point_place.specs.declared.Answer.the-variants.{Stands, NoRoom, Refused}
+use Rattle.point_place.specs.declared.Answer.the-variants.{NoRoom}
 use Rattle.point_place.specs.Place.{triedOf, stood}
 use Rattle.point_step.specs.Pick.{tooHeavy}
-use Rattle.point_stow.specs.declared.Stowed.{Stowed}
+
+-- a state after boxes were placed in order; placed box i has orientation i of the list
+pub record Stowed : Type 0 where
+  pub next : ExtremePointSet
+  pub orientations : List ℕ
 
 -- orientations are tried from 0: the first of the first n in which the box stands
 pub record Attempt : Type 0 where
@@ -45,7 +43,7 @@ attemptOf s kind instance (suc o) =
 abbrev pub afterAttempt : Attempt → Stowed → Stowed
 afterAttempt a f =
     cond (stood (a .tried .answer))
-    (record { refused = 0; next = a .tried .next; orientations = set (f .orientations) (f .next .held) (a .orientation) })
+    (record { next = a .tried .next; orientations = set (f .orientations) (f .next .held) (a .orientation) })
     f
 
 -- one box of the kind
@@ -56,28 +54,9 @@ turnOf kind instance f =
 
 -- the first n items
 unfoldable pub stowedBy : ExtremePointSet → List Kind → List Instance → ℕ → Stowed
-stowedBy s kinds items zero = record { refused = 0; next = s; orientations = replicate mostBoxes 0 }
+stowedBy s kinds items zero = record { next = s; orientations = replicate mostBoxes 0 }
 stowedBy s kinds items (suc i) =
     let item = getD items i noInstance in turnOf (getD kinds (item .kind) noKind) (item .instance) (stowedBy s kinds items i)
-
--- ---- refusals
-
--- an item of a kind that the order does not have is refused by 9
-unfoldable pub isPast : ℕ → List Instance → ℕ → Bool
-isPast kinds items i = not (ltb (getD items i noInstance .kind) kinds)
-
--- 2 for the items, the order's own, then 9
-unfoldable pub stowRefusal : Sheet → List Instance → ℕ → ℕ
-stowRefusal order items count =
-    orElse (when (ltb mostBoxes count) 2)
-    (orElse (sheetRefusal order) (when (anyBelow (isPast (order .many .kinds) items) count) 9))
-
--- the first `count` items in an empty container; where it is refused nothing is placed
-unfoldable pub stowedOf : Sheet → List Instance → ℕ → Stowed
-stowedOf order items count =
-    let n = stowRefusal order items count in
-    let s = freshOf (order .container) .set in
-    cond (eqb n 0) (stowedBy s (order .kinds) items count) (record { refused = n; next = s; orientations = replicate mostBoxes 0 })
 
 -- ---- laws
 
@@ -90,20 +69,10 @@ kind-fair : (k : Kind) (repeats : Bool) → Sound k repeats → kindFault k fals
 unfolding kindFault orElse
 kind-fair k repeats h = rw (h .record-right, h .measures-right)
 
-pub stow-few : (order : Sheet) (items : List Instance) (count : ℕ) → stowRefusal order items count ≡ 0 → count ≤ mostBoxes
-unfolding stowRefusal
-stow-few order items count e = ltb-false mostBoxes count (when-none (ltb mostBoxes count) 1 (or-else-first (when (ltb mostBoxes count) 2) _ e))
-
-pub listed : (order : Sheet) (items : List Instance) (count : ℕ) → stowRefusal order items count ≡ 0 → Listed (order .kinds) items count
-unfolding stowRefusal isPast
-listed order items count e =
-    let past = anyBelow (isPast (order .many .kinds) items) count in
-    let r = or-else-second (when (ltb mostBoxes count) 2) _ e in
-    let a = accepted order (or-else-first (sheetRefusal order) _ r) in
-    let none-past = when-none past 8 (or-else-second (sheetRefusal order) _ r) in
-    let below : (i : ℕ) → i < count → getD items i noInstance .kind < order .many .kinds =
-    λ i l. let k = getD items i noInstance .kind in
-    ltb-true k (order .many .kinds) (not-true-of (ltb k (order .many .kinds)) (any-none (isPast (order .many .kinds) items) count i none-past l)) in
+-- the boxes of kinds that an accepted order has are such
+pub listed : (order : Sheet) (items : List Instance) (n : ℕ) → Accepted order → ((i : ℕ) → i < n → getD items i noInstance .kind < order .many .kinds)
+    → Listed (order .kinds) items n
+listed order items n a below =
     record {
       kind-in = λ i l. let b = below i l in let f = a .few-of .kinds in omega arith;
       kind-right = λ i l. kind-fair _ _ (a .kind-sound (getD items i noInstance .kind) (below i l));

@@ -37,8 +37,7 @@ use Rattle.point_step.specs.declared.Pick.{Pick}
 use Rattle.point_step.specs.declared.Stood.{Stood}
 use Rattle.point_step.specs.Pick.{tooHeavy, noPick, pickOf, pickBy, choiceIn, pick-same, pick-index}
 use Rattle.point_step.specs.Step.{Stores, stores, StepIs, pickFor, stockAfter, boxesAfter, wallsAfter}
-use Rattle.point_stow.specs.declared.Stowed.{Stowed}
-use Rattle.point_stow.specs.Stow.{Attempt, attemptOf, afterAttempt, turnOf, stowedBy}
+use Rattle.point_stow.specs.Stow.{Stowed, Attempt, attemptOf, afterAttempt, turnOf, stowedBy}
 use Rattle.point_stow.specs.Agrees.{pickedOf, Agrees, attempt-agrees}
 
 -- ---- what the loop keeps of a state: counts within their bounds, the walls of its boxes, and their mass
@@ -123,7 +122,7 @@ steady-next s walls mass k label size h l r =
 unfoldable pub turnBy : Pick → Kind → ℕ → Stowed → Stowed
 turnBy p kind instance f =
     cond (p .found)
-    (record { refused = 0; next = pickedOf (f .next) kind instance p; orientations = set (f .orientations) (f .next .held) (p .orientation) })
+    (record { next = pickedOf (f .next) kind instance p; orientations = set (f .orientations) (f .next .held) (p .orientation) })
     f
 
 -- by an attempt that agrees with a pick
@@ -133,8 +132,8 @@ unfolding turnBy
 after-agrees kind instance f a p h = rw (h .same-found) (go (p .found) refl)
   where
     go : (v : Bool) → p .found ≡ v
-        → cond v (record { refused = 0; next = a .tried .next; orientations = set (f .orientations) (f .next .held) (a .orientation) }) f
-        ≡ cond v (record { refused = 0; next = pickedOf (f .next) kind instance p; orientations = set (f .orientations) (f .next .held) (p .orientation) }) f
+        → cond v (record { next = a .tried .next; orientations = set (f .orientations) (f .next .held) (a .orientation) }) f
+        ≡ cond v (record { next = pickedOf (f .next) kind instance p; orientations = set (f .orientations) (f .next .held) (p .orientation) }) f
     go true e = rw (h .same-next e, h .same-orientation e)
     go false e = refl
 
@@ -193,7 +192,7 @@ module _ (s : ExtremePointSet) (walls : List Float) (hints : List ℕ) (mass : F
   -- the turn of a run is what the pick says
   module _ (instance : ℕ) (orientations : List ℕ) (right : kindFault kind false ≡ 0) where
     abbrev so-far : Stowed
-    so-far = record { refused = 0; next = s; orientations = orientations }
+    so-far = record { next = s; orientations = orientations }
 
     accepted : refusalOf (s .live) (s .held) kind ≡ 0
     unfolding refusalOf orElse
@@ -216,7 +215,6 @@ module _ (s : ExtremePointSet) (walls : List Float) (hints : List ℕ) (mass : F
 
     pub turn-some : pickAt .found ≡ true
         → turnOf kind instance so-far ≡ record {
-          refused = 0;
           next = pickedOf s kind instance pickAt;
           orientations = set orientations (s .held)
               (pickAt .orientation);

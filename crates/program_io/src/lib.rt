@@ -2,27 +2,25 @@
 // read or written, so these functions have none but to be safe and to end.
 ghost use mathlib.Core.Path.{_≡_};
 ghost use Prim.Native.Nat.{_/_, _%_};
+ghost use Rattle.waikurpeho.specs.Answer.{unit};
 use libc::STDERR_FILENO;
 use libc::STDIN_FILENO;
 
 // One byte more than a load file may have, so that a longer input is seen to be longer and not cut.
-pub const BYTES: usize = 60001;
-
-// An answer of the boundary is a refusal number times this, plus a count.
-const UNIT: u64 = 4294967296;
+pub const BYTES: usize = file_read::layout::MOST_BYTES + 1;
 
 // The refusal number of an answer, 0 for none.
 pub fn refusal_of(answer: u64) -> u64
-    ensures { λ r. ⌜ r ≡ answer / 4294967296 ⌝ }
+    ensures { λ r. ⌜ r ≡ answer / unit ⌝ }
 {
-    answer / UNIT
+    answer / waikurpeho::UNIT
 }
 
 // The count of an answer.
 pub fn count_of(answer: u64) -> usize
-    ensures { λ r. ⌜ r ≡ answer % 4294967296 ⌝ }
+    ensures { λ r. ⌜ r ≡ answer % unit ⌝ }
 {
-    (answer % UNIT) as usize
+    (answer % waikurpeho::UNIT) as usize
 }
 
 // Whether the input broke off, of which n bytes were read: once it is read to its end, a further read finds nothing and does not fail.

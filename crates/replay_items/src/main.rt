@@ -13,17 +13,12 @@ fn same_fitness(b: &[u8]) -> bool {
 }
 
 fn same_unplaced(b: &[u8]) -> bool {
-    let reading = replay_vectors::sheet_at(b, 0);
-    let order = reading.sheet;
-    let lines = order.lines;
-    let many = order.many;
-    let left = plan_unplaced::unplaced_list(order, lines, many.lines);
+    let left = plan_unplaced::unplaced_list(words::file_in(b));
     let ids = left.ids;
     let at = replay_vectors::after_bytes(b, 0);
     let count = replay_vectors::size(replay_vectors::u32_at(b, at)) == left.count;
     let seen = replay_results::same_ids(b, replay_vectors::past(at, 4), &ids, left.count);
-    let listed = count & (seen.same & (seen.at == b.len()));
-    (reading.refused == 0) & ((left.refused == 0) & listed)
+    (left.refused == 0) & (count & (seen.same & (seen.at == b.len())))
 }
 
 fn one_list(tag: u32, b: &[u8]) -> bool {

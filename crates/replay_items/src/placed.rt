@@ -2,11 +2,10 @@
 // needs, with more, and with one less.
 use crate::words;
 use plan_sheet::Packed;
-use sheet::Sheet;
 
 // Places with n words lent.
 fn place_in(
-    order: Sheet,
+    order: &[u8],
     records: &[u32],
     items: &[u32],
     consider: u64,
@@ -14,16 +13,16 @@ fn place_in(
     n: usize,
 ) -> Packed {
     if n <= out.len() {
-        return layer_run::layer_place_items(order, records, items, consider, &mut out[..n]);
+        return plan_run::layer_place_items(order, records, items, consider, &mut out[..n]);
     }
-    layer_run::layer_place_items(order, records, items, consider, out)
+    plan_run::layer_place_items(order, records, items, consider, out)
 }
 
 // Whether the call with so many words lent is answered as the result at `at` asks.
 fn same_with(
     b: &[u8],
     at: usize,
-    order: Sheet,
+    order: &[u8],
     records: &[u32],
     items: &[u32],
     consider: u64,
@@ -35,7 +34,7 @@ fn same_with(
 }
 
 // Whether the call is refused by this number.
-fn refused_by(order: Sheet, records: &[u32], items: &[u32], consider: u64, number: u32) -> bool {
+fn refused_by(order: &[u8], records: &[u32], items: &[u32], consider: u64, number: u32) -> bool {
     let mut out = [replay_results::UNTOUCHED; replay_results::WORDS];
     let p = place_in(
         order,
@@ -52,7 +51,7 @@ fn refused_by(order: Sheet, records: &[u32], items: &[u32], consider: u64, numbe
 fn same_answer(
     b: &[u8],
     at: usize,
-    order: Sheet,
+    order: &[u8],
     records: &[u32],
     items: &[u32],
     consider: u64,
@@ -86,8 +85,7 @@ fn same_answer(
 }
 
 pub(crate) fn same_items(b: &[u8]) -> bool {
-    let reading = replay_vectors::sheet_at(b, 0);
-    let order = reading.sheet;
+    let order = words::file_in(b);
     let at = replay_vectors::after_bytes(b, 0);
     let threes = words::in_records(replay_vectors::size(replay_vectors::u32_at(b, at)));
     let middle = words::past_words(replay_vectors::past(at, 4), threes);
@@ -100,5 +98,5 @@ pub(crate) fn same_items(b: &[u8]) -> bool {
     let consider = replay_vectors::u32_at(b, end) as u64;
     let r = words::first(&records, threes);
     let i = words::first(&items, twos);
-    (reading.refused == 0) & same_answer(b, replay_vectors::past(end, 4), order, r, i, consider)
+    same_answer(b, replay_vectors::past(end, 4), order, r, i, consider)
 }

@@ -1,26 +1,24 @@
 // Whole fills: the boxes of an order in listing order, as far as a number to consider goes, with as many words lent as they
 // need, with more, and with one less.
 use plan_sheet::Packed;
-use sheet::Sheet;
 
 // Fills with n words lent.
-fn fill_in(order: Sheet, consider: u64, out: &mut [u64], n: usize) -> Packed {
+fn fill_in(order: &[u8], consider: u64, out: &mut [u64], n: usize) -> Packed {
     if n <= out.len() {
-        return layer_run::layer_fill_in_order(order, consider, &mut out[..n]);
+        return plan_run::layer_fill_in_order(order, consider, &mut out[..n]);
     }
-    layer_run::layer_fill_in_order(order, consider, out)
+    plan_run::layer_fill_in_order(order, consider, out)
 }
 
 // Whether a fill with so many words lent is answered as the result at `at` asks.
-fn same_with(b: &[u8], at: usize, order: Sheet, consider: u64, room: usize) -> bool {
+fn same_with(b: &[u8], at: usize, order: &[u8], consider: u64, room: usize) -> bool {
     let mut out = [replay_results::UNTOUCHED; replay_results::WORDS];
     let p = fill_in(order, consider, &mut out, room);
     replay_results::is_answer(b, at, p, &out, room)
 }
 
 pub(crate) fn same_fill(b: &[u8]) -> bool {
-    let reading = replay_vectors::sheet_at(b, 0);
-    let order = reading.sheet;
+    let order = replay_vectors::part(b, 4, replay_vectors::size(replay_vectors::u32_at(b, 0)));
     let after = replay_vectors::after_bytes(b, 0);
     let consider = replay_vectors::u32_at(b, after) as u64;
     let at = replay_vectors::past(after, 4);
@@ -28,5 +26,5 @@ pub(crate) fn same_fill(b: &[u8]) -> bool {
     let exact = same_with(b, at, order, consider, n);
     let roomy = same_with(b, at, order, consider, replay_results::WORDS);
     let short = same_with(b, at, order, consider, replay_results::less_one(n));
-    (reading.refused == 0) & (exact & (roomy & short))
+    exact & (roomy & short)
 }

@@ -1,26 +1,24 @@
 // Replays the sample of the extreme-point placer's runs: placements, counts and utilization, with as many words lent as they
 // need, with more, and with one less.
 use plan_sheet::Packed;
-use sheet::Sheet;
 
 // Runs with n words lent.
-fn run_in(order: Sheet, consider: u64, out: &mut [u64], n: usize) -> Packed {
+fn run_in(order: &[u8], consider: u64, out: &mut [u64], n: usize) -> Packed {
     if n <= out.len() {
-        return point_run::run_ep_packing(order, consider, &mut out[..n]);
+        return plan_run::run_ep_packing(order, consider, &mut out[..n]);
     }
-    point_run::run_ep_packing(order, consider, out)
+    plan_run::run_ep_packing(order, consider, out)
 }
 
 // Whether a run with so many words lent is answered as the result at `at` asks.
-fn same_with(b: &[u8], at: usize, order: Sheet, consider: u64, room: usize) -> bool {
+fn same_with(b: &[u8], at: usize, order: &[u8], consider: u64, room: usize) -> bool {
     let mut out = [replay_results::UNTOUCHED; replay_results::WORDS];
     let p = run_in(order, consider, &mut out, room);
     replay_results::is_answer(b, at, p, &out, room)
 }
 
 fn one(b: &[u8]) -> bool {
-    let reading = replay_vectors::sheet_at(b, 0);
-    let order = reading.sheet;
+    let order = replay_vectors::part(b, 4, replay_vectors::size(replay_vectors::u32_at(b, 0)));
     let after = replay_vectors::after_bytes(b, 0);
     let consider = replay_vectors::u32_at(b, after) as u64;
     let at = replay_vectors::past(after, 4);
@@ -28,7 +26,7 @@ fn one(b: &[u8]) -> bool {
     let exact = same_with(b, at, order, consider, n);
     let roomy = same_with(b, at, order, consider, replay_results::WORDS);
     let short = same_with(b, at, order, consider, replay_results::less_one(n));
-    (reading.refused == 0) & (exact & (roomy & short))
+    exact & (roomy & short)
 }
 
 fn all(s: &[u8]) -> replay_vectors::Tally {

@@ -7,8 +7,8 @@ ghost use Rattle.replay_results.specs.Results.{none, turns, idAt, idTurn
 ghost use Rattle.replay_results.specs.Results.{placedAt, wordsOf, lessOne, sameLists, isResult, isRefused, isAnswer};
 use plan_sheet::Packed;
 
-// Words that a replay lends: 256 lines of six, and some past them.
-pub const WORDS: usize = 1548;
+// Words that a replay lends: those of as many lines as there can be, and two lines more.
+pub const WORDS: usize = (domain::MOST_LINES + 2) * plan_sheet::WORDS;
 
 // What stands in lent words that no call is to change.
 pub const UNTOUCHED: u64 = 11936128518282651045;

@@ -7,7 +7,7 @@ ghost use Rattle.domain.specs.Bounds.{mostKinds, mostLines};
 ghost use Rattle.lists.specs.Below.{sumBelow};
 ghost use Rattle.domain.specs.Refusals.{firstBelow};
 ghost use Rattle.sheet.specs.Sheets.{blankKind, blankLine, emptySheet, among, idsBelow};
-ghost use Rattle.sheet.specs.Sheets.{overCount, quantityOf, boxesIn, kindFaultIn, lineFault, lineFaultIn, sheetRefusal};
+ghost use Rattle.sheet.specs.Sheets.{overCount, quantityOf, kindFaultIn, lineFault, lineFaultIn, sheetRefusal};
 use measures::Container;
 use measures::Kind;
 
@@ -164,16 +164,6 @@ fn total_quantity(kinds: [Kind; domain::MOST_KINDS], n: usize) -> u64
         k += 1;
     }
     t
-}
-
-// The quantity over m kinds, and 0 for more kinds than there can be.
-pub fn boxes_in(kinds: [Kind; domain::MOST_KINDS], m: usize) -> u64
-    ensures { λ r. ⌜ r ≡ boxesIn kinds m ⌝ }
-{
-    if m > domain::MOST_KINDS {
-        return 0;
-    }
-    total_quantity(kinds, m)
 }
 
 fn line_fault(l: Line) -> u32

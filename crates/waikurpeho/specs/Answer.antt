@@ -1,6 +1,10 @@
 -- One word for an answer.
 use Prim.Native.Nat.{ℕ, _+_, _*_}
 
--- the refusal number times 2^32 plus a count
+-- an answer's count is below this, 2^32
+abbrev pub unit : ℕ
+unit = 4294967296
+
+-- the refusal number times that, plus the count
 abbrev pub answerOf : ℕ → ℕ → ℕ
-answerOf refused count = refused * 4294967296 + count
+answerOf refused count = refused * unit + count

@@ -11,7 +11,7 @@ use lib.ListN.{length, length-append, getD}
 use lib.Ieee.{Float, binary64, toBits, lt}
 use Rattle.floats.specs.Ops.{_⊕_, none}
 use Rattle.lists.specs.Below.{anyBelow, allBelow, isAt}
-use Rattle.domain.specs.Bounds.{mostLines}
+use Rattle.domain.specs.Bounds.{mostKinds, mostLines, mostUnplaced}
 use Rattle.measures.specs.Asked.{askedOf}
 use Rattle.check_pair.specs.declared.Extent.{Extent}
 use Rattle.measures.specs.declared.Kind.{Kind}
@@ -25,7 +25,6 @@ use Rattle.check_pair.specs.declared.Verdict.{Verdict}
 use Rattle.check_pair.specs.declared.Verdict.the-variants.{Apart, Overlap, TooClose}
 use Rattle.check_pair.specs.Tolerance.{toleranceOf}
 use Rattle.check_words.specs.Words.{onlyIf}
-use Rattle.check_words.specs.Wrote.{mostWords}
 use Rattle.check_list.specs.Finding.{inRange, boxInside, nameWords, repeatWords, placeWords, verdictWords, massWords, lostWords, wrongWords}
 use Rattle.check_list.specs.View.{View, around, lineFound, verdictFound, pairFound, pairsFound, massFound, lostFound, wrongFound, findingsOf}
 use Rattle.check_packing.specs.declared.Checked.{Checked}
@@ -34,6 +33,7 @@ use Rattle.check_packing.specs.Check.{countOf, checkedOf, fileChecked}
 use Rattle.file_read.specs.Reading.{sheetOf, refusalOf}
 use Rattle.file_write.specs.declared.Written.{Written}
 use Rattle.file_write.specs.Writing.{fileLength, writtenOf}
+use Rattle.waikurpeho.specs.Answer.{unit}
 
 only-few : (t : Bool) (ws : List ℕ) (b : ℕ) → length ws ≤ b → length (onlyIf t ws) ≤ b
 only-few true ws b h = h
@@ -113,7 +113,7 @@ module _ (v : View) where
       let id = getD (v .unplaced) i 0 in
       five (not (v .leftKnown i) || (not (v .leftShort i) || anyBelow (isAt (v .unplaced) id) i)) 11 id 0 0 0
 
-  findings-few : Few (v .many) → length (findingsOf v) ≤ mostWords
+  findings-few : Few (v .many) → length (findingsOf v) ≤ 5 * (6 * mostLines + mostLines * mostLines + mostKinds + mostUnplaced + 1)
   unfolding findingsOf
   findings-few f =
       let a = all-few (lineFound v) 30 (v .many .lines) line-few in
@@ -126,36 +126,36 @@ module _ (v : View) where
       let u = f .unplaced in
       simp length-append (omega arith)
 
-count-few : (s : Sheet) (cells : List ℕ) → checkedOf s cells .count < 4294967296
+count-few : (s : Sheet) (cells : List ℕ) → checkedOf s cells .count < unit
 unfolding checkedOf countOf findings
 count-few s cells = go (eqb (sheetRefusal s) 0) refl
   where
-    go : (t : Bool) → eqb (sheetRefusal s) 0 ≡ t → cond t (length (findings s) / 5) 0 < 4294967296
+    go : (t : Bool) → eqb (sheetRefusal s) 0 ≡ t → cond t (length (findings s) / 5) 0 < unit
     go true e = let h = findings-few (viewOf s) (accepted s (eqb-true (sheetRefusal s) 0 e) .few-of) in omega arith
     go false e = omega arith
 
 -- and so of a file
-pub file-few : (f cells : List ℕ) → fileChecked f cells .count < 4294967296
+pub file-few : (f cells : List ℕ) → fileChecked f cells .count < unit
 unfolding fileChecked
 file-few f cells = go (eqb (refusalOf f) 0)
   where
-    go : (t : Bool) → cond {A = Checked} t (checkedOf (sheetOf f) cells) (record { refused = refusalOf f; count = 0 }) .count < 4294967296
+    go : (t : Bool) → cond {A = Checked} t (checkedOf (sheetOf f) cells) (record { refused = refusalOf f; count = 0 }) .count < unit
     go true = count-few (sheetOf f) cells
     go false = omega arith
 
-pub length-few : (s : Sheet) (room : ℕ) → writtenOf s room .length < 4294967296
+pub length-few : (s : Sheet) (room : ℕ) → writtenOf s room .length < unit
 unfolding writtenOf
 length-few s room = go (eqb (sheetRefusal s) 0) refl (leb (fileLength (s .many)) room)
   where
     go : (t : Bool) → eqb (sheetRefusal s) 0 ≡ t → (r : Bool)
         → cond {A = Written} t (cond r (record { refused = 0; length = fileLength (s .many) }) (record { refused = 6; length = fileLength (s .many) }))
-        (record { refused = sheetRefusal s; length = 0 }) .length < 4294967296
+        (record { refused = sheetRefusal s; length = 0 }) .length < unit
     go true e true = few-bytes (accepted s (eqb-true (sheetRefusal s) 0 e) .few-of)
       where
-        few-bytes : Few (s .many) → fileLength (s .many) < 4294967296
+        few-bytes : Few (s .many) → fileLength (s .many) < unit
         few-bytes f = let k = f .kinds in let l = f .lines in let u = f .unplaced in omega arith
     go true e false = few-bytes (accepted s (eqb-true (sheetRefusal s) 0 e) .few-of)
       where
-        few-bytes : Few (s .many) → fileLength (s .many) < 4294967296
+        few-bytes : Few (s .many) → fileLength (s .many) < unit
         few-bytes f = let k = f .kinds in let l = f .lines in let u = f .unplaced in omega arith
     go false e r = omega arith

@@ -3,27 +3,25 @@
 use mathlib.Core.Path.{_≡_, refl, sym, ap, _∙_}
 use mathlib.Core.Bool.{Bool, true, false, cond, not, _||_}
 use mathlib.Core.List.{List}
-use Prim.Native.Nat.{ℕ, _+_, _*_, _<_, _≤_}
+use Prim.Native.Nat.{ℕ, _<_, _≤_}
 use native.Mathlib.Omega.{arith}
 use borrow.Author.Tests.{eqb-true, eq-eqb, ne-eqb, ltb-false}
 use lib.Dec.{eqb, ltb, leb}
 use lib.ListN.{length, getD, set}
-use lib.Ieee.{nan, binary64, toBits}
+use lib.Ieee.{binary64, toBits}
 use Rattle.domain.specs.Bounds.{mostKinds, mostLines, mostUnplaced}
-use Rattle.domain.specs.Refusals.{when, orElse}
+use Rattle.domain.specs.Refusals.{when}
 use Rattle.domain.specs.Laws.{or-else-first, or-else-second, when-none}
 use Rattle.lists.specs.Bools.{or-left, or-right}
 use Rattle.lists.specs.Table.{table-at}
 use Rattle.sheet.specs.declared.Counts.{Counts}
-use Rattle.sheet.specs.declared.Line.{Line}
 use Rattle.sheet.specs.declared.Sheet.{Sheet}
-use Rattle.sheet.specs.Sheets.{lineAt, unplacedAt, sheetRefusal}
-use Rattle.sheet.specs.Accepted.{accepted}
-use Rattle.sheet.specs.Columns.{Columns, columnLine, idOf, instanceOf, orientationOf, xOf, yOf, zOf}
-use Rattle.file_read.specs.Form.{rightShape, countsOf}
+use Rattle.sheet.specs.Sheets.{sheetRefusal}
+use Rattle.sheet.specs.Columns.{Columns, columnLine}
+use Rattle.file_read.specs.Form.{rightShape}
 use Rattle.file_read.specs.Reading.{sheetOf, refusalOf, readOf}
-use Rattle.file_read.specs.Records.{sectionsOf, Readable, bounds, right-is, right-says, many-is}
-use Rattle.file_accept.specs.Accept.{readable}
+use Rattle.file_read.specs.Refusal.{sheet-sound}
+use Rattle.file_read.specs.Records.{sectionsOf, many-is}
 use Rattle.file_write.specs.declared.Written.{Written}
 use Rattle.file_write.specs.Writing.{lineNumbers, linesFrom, fileLength, writtenOf, bytesAfter}
 use Rattle.file_write.specs.Planned.{overPlan, planWritten, planAfter}
@@ -34,27 +32,21 @@ use Rattle.file_laws.specs.Parts.{Bytes}
 use Rattle.file_laws.specs.Planned.{Plans, plan-answer, plan-bytes}
 use Rattle.plan_unplaced.specs.declared.Left.{Left}
 use Rattle.plan_unplaced.specs.Left.{leftOf}
-use Rattle.plan_unplaced.specs.InFile.{kindsIn, kinds-in-is}
-use Rattle.plan_sheet.specs.declared.Plan.{Plan}
-use Rattle.plan_sheet.specs.declared.PlanSheet.{PlanSheet}
+use Rattle.plan_unplaced.specs.InFile.{kindsIn}
 use Rattle.plan_sheet.specs.declared.Told.{Told}
-use Rattle.plan_sheet.specs.Plans.{leftBy, planRefusal, refusedPlan}
-use Rattle.plan_sheet.specs.Planned.{widened, plannedSheet, sheetFrom}
-use Rattle.plan_sheet.specs.Laid.{planIn, toldOf, placedAt, laid, laidIn, Lays}
-use Rattle.plan_sheet.specs.LaidLaws.{laid-at, left-laid}
-use Rattle.plan_laws.specs.Accepted.{Taken, Lists, leftIn, left-is, points-accepted, points-lists, layers-accepted, layers-lists}
+use Rattle.plan_sheet.specs.Plans.{Plan, planRefusal, refusedPlan}
+use Rattle.plan_sheet.specs.Planned.{PlanSheet, plannedSheet, sheetFrom}
+use Rattle.plan_sheet.specs.Laid.{planIn, toldOf, placedAt, laidIn, Lays}
+use Rattle.plan_laws.specs.Accepted.{Taken, Lists, points-accepted, points-lists, layers-accepted, layers-lists}
+use Rattle.plan_laws.specs.Laid as Laws
+use Rattle.plan_laws.specs.Laid.{laidLeft, left-made, Long, line-laid, sections-are}
 use Rattle.plan_laws.specs.Bins.{points-bins, layers-bins}
 use Rattle.point_run.specs.Runs.{epPackingOf}
-use Rattle.point_run.specs.Lay.{LayIs}
 use Rattle.layer_plan.specs.Fills.{layerFillOf}
-use Rattle.waikurpeho.specs.Answer.{answerOf}
+use Rattle.waikurpeho.specs.Answer.{unit, answerOf}
 use Rattle.waikurpeho.specs.Plan.{Planner, planAnswer, planBytes, planFigures, orderAnswer, orderBytes, orderFigures, Answers}
 
--- ---- what is written of a plan that is told of
-
--- the ids of what its lines leave of the order's kinds
-unfoldable pub laidLeft : List ℕ → Told → Columns → Left
-laidLeft f t c = leftOf (kindsIn f (sectionsOf f .many .kinds)) (sectionsOf f .many .kinds) (c .ids) (c .instances) (t .placed)
+-- ---- what is written of a plan that is told of, with the ids that its lines leave
 
 abbrev pub laidCounts : List ℕ → Told → Columns → Counts
 laidCounts f t c = record { kinds = sectionsOf f .many .kinds; lines = t .placed; unplaced = laidLeft f t c .count }
@@ -82,17 +74,17 @@ pub record WritesLaid (f : List ℕ) (t : Told) (c : Columns) (out old : List �
   pub figures-are : figures ≡ laidFigures f t c (length out) old
 
 -- the length told is far below 2^32
-pub written-few : (n : ℕ) (m : Counts) (room : ℕ) → planWritten n m room .length < 4294967296
+pub written-few : (n : ℕ) (m : Counts) (room : ℕ) → planWritten n m room .length < unit
 unfolding planWritten
 written-few n m room = go (overPlan m) refl (ltb n (linesFrom m)) (leb (fileLength m) room)
   where
-    few : Holds m → fileLength m < 4294967296
+    few : Holds m → fileLength m < unit
     few h = let a = h .kinds in let b = h .lines in let c = h .left in omega arith
 
     go : (b : Bool) → overPlan m ≡ b → (d e : Bool)
         → cond {A = Written} b (record { refused = 2; length = 0 })
         (cond {A = Written} d (record { refused = 1; length = 0 })
-        (cond {A = Written} e (record { refused = 0; length = fileLength m }) (record { refused = 6; length = fileLength m }))) .length < 4294967296
+        (cond {A = Written} e (record { refused = 0; length = fileLength m }) (record { refused = 6; length = fileLength m }))) .length < unit
     go true h d e = omega arith
     go false h true e = omega arith
     go false h false true = few (holds m h)
@@ -103,8 +95,7 @@ module _ (f : List ℕ) (t : Told) (c : Columns) (out words : List ℕ) (s : Sec
     (sections : s ≡ sectionsOf f) (left : l ≡ leftOf (kindsIn f (s .many .kinds)) (s .many .kinds) (c .ids) (c .instances) (t .placed))
     (told : Stores.Told f (record { kinds = s .many .kinds; lines = t .placed; unplaced = l .count }) c (l .ids) out out′ w) where
   left-laid-is : l ≡ laidLeft f t c
-  unfolding laidLeft
-  left-laid-is = rw sections at left
+  left-laid-is = left-made f t c s l sections left
 
   told-laid : Stores.Told f (laidCounts f t c) c (laidLeft f t c .ids) out out′ w
   told-laid = rw (sections, left-laid-is) at told
@@ -143,19 +134,6 @@ pub record Sound (order : Sheet) (p : Plan) : Type 0 where
   pub taken : Taken order p
   pub lists : Lists (order .kinds) (order .many .kinds) p
   pub bins : (i : ℕ) → i < p .placed → placedAt p i .bin ≡ 0
-
--- columns of the length that they have
-pub record Long (c : Columns) : Type 0 where
-  pub ids-long : length (c .ids) ≡ mostLines
-  pub instances-long : length (c .instances) ≡ mostLines
-  pub turns-long : length (c .turns) ≡ mostLines
-  pub xs-long : length (c .xs) ≡ mostLines
-  pub ys-long : length (c .ys) ≡ mostLines
-  pub zs-long : length (c .zs) ≡ mostLines
-
-sheet-right : (f : List ℕ) → refusalOf f ≡ 0 → sheetRefusal (sheetOf f) ≡ 0
-unfolding refusalOf
-sheet-right f z = or-else-second (when (not (rightShape f)) 1) _ z
 
 -- what a plan whose sheet is accepted has
 record Fair (p : Plan) : Type 0 where
@@ -198,50 +176,22 @@ module _ (f : List ℕ) (bytes : Bytes f) (z : refusalOf f ≡ 0) (p : Plan) (so
   fair-plan = fair order p (sound .taken)
 
   order-accepted : sheetRefusal order ≡ 0
-  order-accepted = sheet-right f z
-
-  sections-are : sectionsOf f .many ≡ countsOf f
-  sections-are = right-says f (sectionsOf f) refl (right-is f ∙ readable f z .shape) .many-are
-
-  kinds-few : countsOf f .kinds ≤ mostKinds
-  kinds-few = bounds f (readable f z) .kinds
-
-  -- the list that is made from the columns is the plan's own
-  left-by : left ≡ leftBy (order .kinds) (countsOf f .kinds) (p .lines) (p .placed)
-  unfolding laidLeft
-  left-by =
-      rw (sections-are, kinds-in-is f (readable f z))
-      (left-laid (order .kinds) (countsOf f .kinds) p (old .ids) (old .instances) (fair-plan .lines-few) (long .ids-long) (long .instances-long))
-
-  left-in : left ≡ leftIn (order .kinds) (order .many .kinds) (p .lines) (p .placed)
-  left-in =
-      left-by ∙ left-is (order .kinds) (countsOf f .kinds) (p .lines) (p .placed) kinds-few (fair-plan .lines-few)
-      ∙ ap (λ (m : Counts). leftIn (order .kinds) (m .kinds) (p .lines) (p .placed)) (many-is f)
+  order-accepted = sheet-sound f z
 
   count-is : left .count ≡ p .unplaced
-  count-is = ap (λ (l : Left). l .count) left-in ∙ sym (sound .lists .count-is)
+  count-is = Laws.count-is f z p (sound .lists) old long
 
   ids-are : left .ids ≡ p .ids
-  ids-are = ap (λ (l : Left). l .ids) left-in ∙ sym (sound .lists .ids-are)
+  ids-are = Laws.ids-are f z p (sound .lists) old long
 
   counts-are : laidCounts f (toldOf p) cols ≡ sheet .many
   unfolding plannedSheet
-  counts-are = rw (sections-are, count-is, many-is f)
+  counts-are = rw (sections-are f z, count-is, many-is f)
 
   -- line i of the sheet has the numbers of line i of the columns
   numbers-are : (i : ℕ) → i < p .placed → lineNumbers (placedAt p i) ≡ lineNumbers (columnLine cols i)
   unfolding lineNumbers
-  numbers-are i l =
-      let few = fair-plan .lines-few in
-      rw (
-        laid-at idOf (old .ids) p i 0 (let h = long .ids-long in omega arith) l,
-        laid-at instanceOf (old .instances) p i 0 (let h = long .instances-long in omega arith) l,
-        laid-at orientationOf (old .turns) p i 0 (let h = long .turns-long in omega arith) l,
-        laid-at xOf (old .xs) p i nan (let h = long .xs-long in omega arith) l,
-        laid-at yOf (old .ys) p i nan (let h = long .ys-long in omega arith) l,
-        laid-at zOf (old .zs) p i nan (let h = long .zs-long in omega arith) l,
-        sound .bins i l,
-      )
+  numbers-are i l = rw (sound .bins i l) (sym (ap lineNumbers (line-laid p old long (fair-plan .lines-few) i l)))
 
   plans : Plans f cols (left .ids) sheet
   unfolding plannedSheet
@@ -348,23 +298,14 @@ module _ (planOf : Planner) (f : List ℕ) (bytes : Bytes f) (consider : ℕ) (s
 
 pub points-sound : (f : List ℕ) (consider : ℕ) → refusalOf f ≡ 0 → Sound (sheetOf f) (epPackingOf (sheetOf f) consider)
 points-sound f consider z =
-    let h = sheet-right f z in
+    let h = sheet-sound f z in
     record { taken = points-accepted (sheetOf f) consider h; lists = points-lists (sheetOf f) consider h; bins = points-bins (sheetOf f) consider h }
 
 pub layers-sound : (f : List ℕ) (consider : ℕ) → refusalOf f ≡ 0 → Sound (sheetOf f) (layerFillOf (sheetOf f) consider)
 layers-sound f consider z =
-    let h = sheet-right f z in
+    let h = sheet-sound f z in
     record {
       taken = layers-accepted (sheetOf f) consider h;
       lists = layers-lists (sheetOf f) consider h;
       bins = λ i _. layers-bins (sheetOf f) consider h i;
-    }
-
--- what the first placer lays, column by column, is the plan
-pub points-lays : (f : List ℕ) (consider : ℕ) (old : Columns) (r : Told) (new : Columns) → LayIs f consider old r new
-    → Lays (planIn epPackingOf f consider) r old new
-points-lays f consider old r new h =
-    record {
-      told-is = h .told-is;
-      columns-are = rw (← (h .ids-are), ← (h .instances-are), ← (h .turns-are), ← (h .xs-are), ← (h .ys-are), ← (h .zs-are));
     }

@@ -7,9 +7,8 @@ use lib.Dec.{eqb}
 use lib.ListN.{length, set}
 use lib.Ieee.{binary64, toBits}
 use Rattle.sheet.specs.declared.Sheet.{Sheet}
-use Rattle.plan_sheet.specs.declared.Plan.{Plan}
-use Rattle.plan_sheet.specs.declared.PlanSheet.{PlanSheet}
-use Rattle.plan_sheet.specs.Planned.{sheetFrom}
+use Rattle.plan_sheet.specs.Plans.{Plan}
+use Rattle.plan_sheet.specs.Planned.{PlanSheet, sheetFrom}
 use Rattle.file_read.specs.Reading.{readOf}
 use Rattle.file_write.specs.Writing.{writtenOf, bytesAfter}
 use Rattle.waikurpeho.specs.Answer.{answerOf}

@@ -11,8 +11,9 @@ use Rattle.sheet.specs.Sheets.{sheetRefusal}
 use Rattle.file_write.specs.declared.Written.{Written}
 use Rattle.file_read.specs.Form.{rightShape}
 use Rattle.file_read.specs.Reading.{refusalOf, readOf}
+use Rattle.file_read.specs.Refusal.{sheet-sound}
 use Rattle.file_write.specs.Writing.{fileLength, writtenOf}
-use Rattle.plan_sheet.specs.declared.Plan.{Plan}
+use Rattle.plan_sheet.specs.Plans.{Plan}
 use Rattle.plan_sheet.specs.Planned.{plannedSheet}
 use Rattle.point_run.specs.Runs.{epPackingOf}
 use Rattle.layer_plan.specs.Fills.{layerFillOf}
@@ -28,8 +29,8 @@ abbrev pub plannedLength : Sheet → Plan → ℕ
 plannedLength order plan = fileLength (plannedSheet order plan .many)
 
 read-accepted : (file : List ℕ) → readOf file .refused ≡ 0 → sheetRefusal (readOf file .sheet) ≡ 0
-unfolding readOf refusalOf
-read-accepted file h = rw h (or-else-second (when (not (rightShape file)) 1) _ h)
+unfolding readOf
+read-accepted file h = rw h (sheet-sound file h)
 
 plan-answer : (order : Sheet) (plan : Plan) (room : ℕ) → Taken order plan → planAnswer order plan room ≡ lengthOrSix (plannedLength order plan) room
 unfolding planAnswer writtenOf

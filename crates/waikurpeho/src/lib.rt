@@ -3,7 +3,7 @@
 ghost use mathlib.Core.Path.{_≡_};
 ghost use Prim.Native.Nat.{_<_};
 ghost use lib.ListN.{length};
-ghost use Rattle.waikurpeho.specs.Answer.{answerOf};
+ghost use Rattle.waikurpeho.specs.Answer.{unit, answerOf};
 ghost use Rattle.waikurpeho.specs.Check.{checkAnswer, checkCells};
 ghost use Rattle.point_run.specs.Runs.{epPackingOf};
 ghost use Rattle.layer_plan.specs.Fills.{layerFillOf};
@@ -14,12 +14,15 @@ ghost use Rattle.waikurpeho.specs.Fill.{fillAnswer, fillAfter};
 use file_read::records;
 use plan_sheet::Told;
 
+// An answer is a refusal number times this, plus a count below it.
+pub const UNIT: u64 = 4294967296;
+
 // A refusal number and a count in one word.
 fn answer(refused: u32, count: usize) -> u64
-    requires { ⌜ count < 4294967296 ⌝ }
+    requires { ⌜ count < unit ⌝ }
     ensures { λ r. ⌜ r ≡ answerOf refused count ⌝ }
 {
-    (refused as u64) * 4294967296 + count as u64
+    (refused as u64) * UNIT + count as u64
 }
 
 // The findings on a load file, five words to a slot: how many there are, or 6 and the slots needed.

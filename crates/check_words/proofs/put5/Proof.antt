@@ -1,11 +1,16 @@
 -- `put5` meets its contract: five words, one after the other.
-use Rattle.check_words.specs.Writes.{wrote-then}
+use native.Mathlib.Omega.{arith}
+use lib.ListN.{length-set}
+use Rattle.check_words.specs.Writes.{wrote-then, wrote-five}
 use borrow.Author.Needs.{needs}
 use Rattle.check_words.proofs.put5.Statement.{statement}
 use Rattle.check_words.proofs.put5.Tie as tie
 
 returns : tie.Need-returns
-returns c =
+returns c = wrote-five _ _ _ _ _ _ _
+
+returns-2 : tie.Need-returns-2
+returns-2 c =
     let e = c .before .before in
     let d = e .before .before .before .before in
     let b = d .before .before .before .before in
@@ -16,4 +21,29 @@ returns c =
 pub put5-spec : {M : Type 1} → statement M
 put5-spec =
     tie.close
-    (tie.spec (λ c κs. search needs) (λ c κs. search needs) (λ c κs. search needs) (λ c κs. search needs) (λ c κs. search needs) (λ c. search needs) returns)
+    (tie.spec
+    (λ c. search needs)
+    (λ c. search needs)
+    (λ c. search needs)
+    (λ c. search needs)
+    (λ c. search needs)
+    (λ c. simp length-set (omega arith))
+    (λ c. search needs)
+    (λ c. search needs)
+    (λ c. simp length-set (omega arith))
+    (λ c. search needs)
+    (λ c. search needs)
+    (λ c. simp length-set (omega arith))
+    (λ c. search needs)
+    (λ c. search needs)
+    (λ c. simp length-set (omega arith))
+    (λ c. search needs)
+    (λ c. search needs)
+    returns
+    (λ c κs. search needs)
+    (λ c κs. search needs)
+    (λ c κs. search needs)
+    (λ c κs. search needs)
+    (λ c κs. search needs)
+    (λ c. search needs)
+    returns-2)

@@ -6,12 +6,13 @@ use Rattle.measures.specs.declared.Container.{Container}
 use Rattle.sheet.specs.declared.Counts.{Counts}
 use Rattle.sheet.specs.Accepted.{accepted}
 use Rattle.file_read.specs.Reading.{sheetOf}
+use Rattle.file_read.specs.Refusal.{sheet-sound}
 use Rattle.file_read.specs.Records.{bounds, many-is, container-is}
 use Rattle.file_accept.specs.declared.Accepted.{Accepted}
 use Rattle.file_accept.specs.Accept.{Taken, taken, refusal-is}
 use Rattle.fill_thousand.specs.Fill.{fillRefusal, solidOf}
 use Rattle.fill_thousand.specs.FillLaws.{container-some, answer-refused, answer-filled}
-use Rattle.fill_thousand.specs.FileFill.{sheet-sound, file-refused, file-filled, lengths-decide}
+use Rattle.fill_thousand.specs.FileFill.{file-refused, file-filled, lengths-decide}
 use Rattle.fill_thousand.specs.Tabled.{tabled}
 use borrow.Author.Needs.{needs}
 use Rattle.fill_thousand.proofs.fill_of.Statement.{statement}

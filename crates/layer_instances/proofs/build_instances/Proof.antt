@@ -5,10 +5,11 @@ use native.Mathlib.Nat.{le-refl}
 use borrow.Author.Needs.{needs}
 use Rattle.sheet.specs.Accepted.{accepted}
 use Rattle.file_read.specs.Reading.{sheetOf}
+use Rattle.file_read.specs.Refusal.{sheet-sound}
 use Rattle.file_accept.specs.declared.Accepted.{Accepted}
 use Rattle.file_accept.specs.Accept.{Taken, taken, refusal-is}
-use Rattle.layer_instances.specs.Turns.{boxes-from, InFile, in-file}
-use Rattle.layer_instances.specs.Instances.{total, sheet-sound, ended-refused, ended-short, ended-written}
+use Rattle.plan_boxes.specs.Files.{boxes-from, InFile, in-file}
+use Rattle.layer_instances.specs.Instances.{total, ended-refused, ended-short, ended-written}
 use Rattle.layer_instances.proofs.build_instances.Statement.{statement}
 use Rattle.layer_instances.proofs.build_instances.Tie as tie
 

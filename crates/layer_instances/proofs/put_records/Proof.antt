@@ -13,7 +13,7 @@ use Rattle.file_read.specs.Reading.{sheetOf}
 use Rattle.file_read.specs.Records.{bounds, kind-is}
 use Rattle.plan_boxes.specs.Turns.{turnOf}
 use Rattle.lists.specs.Rows.{wrote, wrote-none, wrote-length, wrote-more}
-use Rattle.layer_instances.specs.Turns.{nextBox, next-box}
+use Rattle.plan_boxes.specs.Files.{nextBox, next-box}
 use Rattle.layer_instances.specs.Instances.{recordWords, three}
 use Rattle.layer_instances.proofs.put_records.Statement.{statement}
 use Rattle.layer_instances.proofs.put_records.Tie as tie

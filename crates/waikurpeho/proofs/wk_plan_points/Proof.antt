@@ -3,7 +3,7 @@ use mathlib.Core.Path.{refl}
 use native.Mathlib.Omega.{arith}
 use borrow.Author.Needs.{needs}
 use Rattle.point_run.specs.Runs.{epPackingOf}
-use Rattle.waikurpeho.specs.Laid.{answers, points-sound, points-lays}
+use Rattle.waikurpeho.specs.Laid.{answers, points-sound}
 use Rattle.waikurpeho.proofs.wk_plan_points.Statement.{statement}
 use Rattle.waikurpeho.proofs.wk_plan_points.Tie as tie
 
@@ -13,7 +13,7 @@ returns c =
     answers epPackingOf (a .order .now) (λ i. omega (arith, c .before .before .before .before .before .before .before .before .before .before .before .before .before .before .before .before .before .before .before .shared-slice-known .given i)) (a .consider)
     (points-sound (a .order .now) (a .consider)) _
     (record { ids-long = refl; instances-long = refl; turns-long = refl; xs-long = refl; ys-long = refl; zs-long = refl })
-    _ _ _ _ _ _ _ (points-lays _ _ _ _ _ (c .before .before .before .before .before .before .before .before .before .before .before .lay-points .ensures))
+    _ _ _ _ _ _ _ (c .before .before .before .before .before .before .before .before .before .before .before .lay-points .ensures)
     (c .before .before .write-laid .ensures)
 
 pub wk-plan-points-spec : {M : Type 1} → statement M

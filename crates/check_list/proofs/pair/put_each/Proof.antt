@@ -6,8 +6,8 @@ use lib.ListN.{length}
 use Rattle.lists.specs.Below.{allBelow}
 use Rattle.check_words.specs.Wrote.{Wrote}
 use Rattle.check_words.specs.Writes.{wrote-more, wrote-length}
-use Rattle.check_list.specs.View.{View, pairFound}
-use Rattle.check_list.specs.Held.{PairsHeld}
+use Rattle.check_list.specs.View.{pairFound}
+use Rattle.check_list.specs.Held.{boxesIn}
 use Rattle.check_list.proofs.Found.{pair-found}
 use native.Mathlib.Omega.{arith}
 use borrow.Author.Needs.{needs}
@@ -15,22 +15,22 @@ use Rattle.check_list.proofs.pair.put_each.Statement.{statement}
 use Rattle.check_list.proofs.pair.put_each.Tie as tie
 
 abbrev Inv-loop : tie.InvT-loop
-Inv-loop out₀ at which x y z xx yy zz m n i from to c t e known p₀ j₀ out p j =
+Inv-loop out₀ at which boxes rule i from to m asked e known p₀ j₀ out p j =
     (from ≤ j) × (j ≤ to) × (p ≤ at + 5 * (j - from)) × (length out ≡ length out₀)
-    × ((v : View) → PairsHeld m n c which x y z xx yy zz v → (b : List ℕ) (q : ℕ)
-    → Wrote b q (allBelow (pairFound v i) from) at out₀ → Wrote b q (allBelow (pairFound v i) j) p out)
+    × ((b : List ℕ) (q : ℕ) → Wrote b q (allBelow (pairFound (boxesIn rule which boxes) i) from) at out₀
+    → Wrote b q (allBelow (pairFound (boxesIn rule which boxes) i) j) p out)
 
 abbrev μ-loop : tie.MeasureT-loop
-μ-loop out₀ at which x y z xx yy zz m n i from to c t e known p₀ j₀ out p j = to - j
+μ-loop out₀ at which boxes rule i from to m asked e known p₀ j₀ out p j = to - j
 
 loop-holds : tie.Need-loop-holds Inv-loop μ-loop
-loop-holds c = (omega arith, omega arith, omega arith, refl, λ v h b q w. w)
+loop-holds c = (omega arith, omega arith, omega arith, refl, λ b q w. w)
 
 put-verdict-requires : tie.Need-put-verdict-requires Inv-loop μ-loop
 put-verdict-requires c κs =
     let b = c .before .before .before in
     let l = b .before .before in
-    let s = l .before .before .before .before in
+    let s = l .before .before .before .before .before in
     omega (arith, l .loop .inv .0, l .loop .inv .2, b .before .loop-test .taken, s .pre)
 
 loop-again : tie.Need-loop-again Inv-loop μ-loop
@@ -40,7 +40,7 @@ loop-again c =
     let b = d .before in
     let l = b .before .before in
     let a = l .before .before in
-    let s = a .before .before in
+    let s = a .before .before .before in
     let i = l .loop .inv in
     let less = b .before .loop-test .taken in
     let w = p .put-verdict .ensures in (
@@ -48,11 +48,10 @@ loop-again c =
       omega (arith, less),
       omega (arith, i .0, i .2, w .1),
       wrote-length (w .0) ∙ i .3,
-      λ v h o q before.
-          wrote-more _ _ (i .4 v h o q before)
-          (rw (pair-found v _ _ _ _ _ _ _ _ _ _ h (s .args .i) (l .loop .j) (omega (arith, s .pre, less)) (omega (arith, s .pre, less))
-          (omega (arith, i .0, s .pre)))
-          at (rw (s .pre .1 .1 .1 .1 .1) at (rw (d .judge .ensures, b .box-at2 .ensures, a .box-at .ensures) at (w .0)))),
+      λ o q before.
+          wrote-more _ _ (i .4 o q before)
+          (rw (pair-found (s .args .rule) (s .args .which .now) (s .args .boxes .now) (s .args .i) (l .loop .j) (omega (arith, i .0, s .pre)) (s .pre .1 .1 .1 .1 .1))
+          at (rw (d .judge .ensures, b .box-at2 .ensures, a .box-at .ensures) at (w .0))),
     )
 
 same-length : tie.Need-same-length Inv-loop μ-loop
@@ -62,9 +61,9 @@ returns : tie.Need-returns Inv-loop μ-loop
 returns c =
     let l = c .before in
     let i = l .loop .inv in
-    let s = l .before .before .before .before in
+    let s = l .before .before .before .before .before in
     let e : l .loop .j ≡ s .args .to = omega (arith, i .0, i .1, s .pre) in
-    record { as-long = i .3; few = rw e at (i .2); words = λ v h o q before. rw e at (i .4 v h o q before) }
+    record { as-long = i .3; few = rw e at (i .2); words = λ o q before. rw e at (i .4 o q before) }
 
 pub put-each-spec : {M : Type 1} → statement M
 put-each-spec =

@@ -10,37 +10,38 @@ use Rattle.sheet.specs.Sheets.{lineAt}
 use Rattle.file_read.specs.Reading.{sheetOf}
 use Rattle.file_read.specs.Records.{line-is}
 use Rattle.check_packing.specs.Lines.{kindOf, massBelow}
-use Rattle.check_packing.specs.Columns.{kindNamed, nearX, nearY, nearZ, farX, farY, farZ}
+use Rattle.check_packing.specs.Columns.{kindNamed, boxRead, boxesFilled}
 use Rattle.check_packing.proofs.Read.{few-kinds, few-lines, place-read, box-read, mass-read}
 use borrow.Author.Needs.{needs}
 use Rattle.check_packing.proofs.columns.line_columns.Statement.{statement}
 use Rattle.check_packing.proofs.columns.line_columns.Tie as tie
 
 abbrev Inv-loop : tie.InvT-loop
-Inv-loop f a ids which₀ x₀ y₀ z₀ xx₀ yy₀ zz₀ m n mass₀ i₀ which x y z xx yy zz mass i =
-    (i ≤ n) × (mass ≡ massBelow (sheetOf f) i) × (which ≡ filled which₀ (kindNamed (sheetOf f)) i)
-    × (x ≡ filled x₀ (nearX f) i) × (y ≡ filled y₀ (nearY f) i) × (z ≡ filled z₀ (nearZ f) i)
-    × (xx ≡ filled xx₀ (farX f) i) × (yy ≡ filled yy₀ (farY f) i) × (zz ≡ filled zz₀ (farZ f) i)
+Inv-loop f a ids which₀ boxes₀ m n mass₀ i₀ which boxes mass i =
+    (i ≤ n) × (mass ≡ massBelow (sheetOf f) i) × (which ≡ filled which₀ (kindNamed (sheetOf f)) i) × (boxes ≡ boxesFilled boxes₀ (boxRead f) i)
 
 abbrev μ-loop : tie.MeasureT-loop
-μ-loop f a ids which₀ x₀ y₀ z₀ xx₀ yy₀ zz₀ m n mass₀ i₀ which x y z xx yy zz mass i = n - i
+μ-loop f a ids which₀ boxes₀ m n mass₀ i₀ which boxes mass i = n - i
 
 loop-holds : tie.Need-loop-holds Inv-loop μ-loop
-unfolding filled massBelow
-loop-holds c = (omega arith, refl, refl, refl, refl, refl, refl, refl, refl)
+unfolding filled boxesFilled massBelow
+loop-holds c = (omega arith, refl, refl, refl)
 
 place-of-requires : tie.Need-place-of-requires Inv-loop μ-loop
 place-of-requires c κs = few-kinds _ _ (c .before .before .before .before .pre .0)
 
-inside : (c : tie.After-mass-with Inv-loop μ-loop)
-    → c .before .before .before .before .before .before .before .before .before .before .args .a .lines ≤ mostLines
-inside c = few-lines _ _ (c .before .before .before .before .before .before .before .before .before .before .pre .0)
+inside : (c : tie.In-loop Inv-loop μ-loop) → c .before .before .before .args .a .lines ≤ mostLines
+inside c = few-lines _ _ (c .before .before .before .pre .0)
+
+abbrev turn-of : tie.After-mass-with Inv-loop μ-loop → tie.In-loop Inv-loop μ-loop
+turn-of c = c .before .before .before .before
 
 loop-again : tie.Need-loop-again Inv-loop μ-loop
-unfolding filled massBelow nearX nearY nearZ farX farY farZ kindNamed
+unfolding filled boxesFilled massBelow kindNamed
 loop-again c =
-    let b = c .before .before .before in
-    let k = b .before in
+    let b = c .before in
+    let m = b .before .before in
+    let k = m .before in
     let p = k .before in
     let r = p .before in
     let l = r .before .before in
@@ -52,14 +53,9 @@ loop-again c =
     let ew = place-read _ _ t _ (s .pre .1) _ _ (p .place-of .ensures) ∙ ap (λ (q : Line). kindOf (sheetOf (s .args .f .now)) (q .id)) el in
     let eb = box-read _ _ t i _ el _ ew _ (k .kind-in .ensures) _ (b .box-of .ensures) in (
       omega arith,
-      rw add-one (mass-read _ _ t i _ el _ ew _ (k .kind-in .ensures) _ _ (v .1) (c .mass-with .ensures)),
+      rw add-one (mass-read _ _ t i _ el _ ew _ (k .kind-in .ensures) _ _ (v .1) (m .mass-with .ensures)),
       rw (add-one, ← (v .2)) (rw ew),
-      rw (add-one, ← (v .3)) (rw eb),
-      rw (add-one, ← (v .4)) (rw eb),
-      rw (add-one, ← (v .5)) (rw eb),
-      rw (add-one, ← (v .6)) (rw eb),
-      rw (add-one, ← (v .7)) (rw eb),
-      rw (add-one, ← (v .8)) (rw eb),
+      c .put-box .ensures ∙ rw (add-one, ← (v .3)) (rw eb),
     )
 
 returns : tie.Need-returns Inv-loop μ-loop
@@ -67,7 +63,7 @@ returns c =
     let l = c .before in
     let v = l .loop .inv in
     let e : l .loop .i ≡ l .before .before .args .a .lines = omega arith in
-    (rw e at (v .1), rw e at (v .2), rw e at (v .3), rw e at (v .4), rw e at (v .5), rw e at (v .6), rw e at (v .7), rw e at (v .8))
+    (rw e at (v .1), rw e at (v .2), rw e at (v .3))
 
 pub line-columns-spec : {M : Type 1} → statement M
 line-columns-spec =
@@ -80,28 +76,11 @@ line-columns-spec =
     place-of-requires
     (λ c κs. search needs)
     (λ c κs. search needs)
+    (λ c. omega (arith, inside (turn-of c)))
+    (λ c. omega (arith, inside (turn-of c)))
     (λ c κs. search needs)
-    (λ c. omega (arith, inside c))
-    (λ c. omega (arith, inside c))
-    (λ c. search needs)
-    (λ c. omega (arith, inside c))
-    (λ c. omega (arith, inside c))
-    (λ c. search needs)
-    (λ c. omega (arith, inside c))
-    (λ c. omega (arith, inside c))
-    (λ c. search needs)
-    (λ c. omega (arith, inside c))
-    (λ c. omega (arith, inside c))
-    (λ c. search needs)
-    (λ c. omega (arith, inside c))
-    (λ c. omega (arith, inside c))
-    (λ c. search needs)
-    (λ c. omega (arith, inside c))
-    (λ c. omega (arith, inside c))
-    (λ c. search needs)
-    (λ c. omega (arith, inside c))
-    (λ c. omega (arith, inside c))
-    (λ c. omega (arith, inside c))
+    (λ c κs. omega (arith, inside (turn-of (c .before .before))))
+    (λ c. omega (arith, inside (turn-of (c .before .before .before))))
     (λ c. omega arith)
     loop-again
     returns)

@@ -7,45 +7,44 @@ use mathlib.Core.Bool.{_&&_}
 use lib.Dec.{ltb}
 use lib.ListN.{getD}
 use Rattle.domain.specs.Bounds.{mostKinds, mostLines, placeWithin}
-use Rattle.lists.specs.Table.{filled, filled-same}
+use Rattle.lists.specs.Below.{sumBelow}
+use Rattle.lists.specs.Table.{filled}
 use Rattle.sheet.specs.declared.Line.{Line}
 use Rattle.sheet.specs.Sheets.{lineAt, kindAt}
 use Rattle.file_read.specs.Reading.{sheetOf}
 use Rattle.file_read.specs.Records.{line-is}
-use Rattle.check_packing.specs.Lines.{repeats, packed, short, counted}
-use Rattle.check_packing.specs.Columns.{kindMany, shortIn}
-use Rattle.check_packing.proofs.Read.{sound, kinds-are, lines-are, few-kinds, few-lines, counts-read}
-use Rattle.check_packing.proofs.Marks.{Marked, marked-start, turn, first-at, short-is}
+use Rattle.check_packing.specs.Lines.{repeats, packed, counted}
+use Rattle.check_packing.specs.Columns.{kindMany}
+use Rattle.check_packing.proofs.Read.{sound, kinds-are, lines-are, few-lines, counts-read}
+use Rattle.check_packing.proofs.Marks.{Marked, marked-start, turn, first-at}
 use borrow.Author.Needs.{needs}
 use Rattle.check_packing.proofs.columns.mark_columns.Statement.{statement}
 use Rattle.check_packing.proofs.columns.mark_columns.Tie as tie
 
 abbrev Inv-loop : tie.InvT-loop
-Inv-loop f which many firsts again₀ short₀ m n start seen₀ packed₀ i₀ again seen packed i =
+Inv-loop f which many firsts again₀ packed₀ m n start seen₀ i₀ again packed seen i =
     (i ≤ n) × (again ≡ filled again₀ (repeats (sheetOf f)) i) × Marked (sheetOf f) i seen packed
 
 abbrev μ-loop : tie.MeasureT-loop
-μ-loop f which many firsts again₀ short₀ m n start seen₀ packed₀ i₀ again seen packed i = n - i
+μ-loop f which many firsts again₀ packed₀ m n start seen₀ i₀ again packed seen i = n - i
 
 loop-holds : tie.Need-loop-holds Inv-loop μ-loop
 unfolding filled
-loop-holds c = (omega arith, refl, marked-start _ (sound _ _ (c .before .pre .file-taken)))
+loop-holds c = let s = c .before in (omega arith, refl, rw (s .pre .1) (marked-start _ (sound _ _ (s .pre .0 .file-taken))))
 
 inside : (c : tie.In-loop Inv-loop μ-loop) → c .before .before .before .args .a .lines ≤ mostLines
-inside c = few-lines _ _ (c .before .before .before .pre .file-taken)
-
-short-column-requires : tie.Need-short-column-requires Inv-loop μ-loop
-short-column-requires c κs = few-kinds _ _ (c .before .before .before .before .before .pre .file-taken)
+inside c = few-lines _ _ (c .before .before .before .pre .0 .file-taken)
 
 loop-again : tie.Need-loop-again Inv-loop μ-loop
 unfolding filled
 loop-again c =
-    let o = c .before in
+    let one = c .before in
+    let o = one .before in
     let p = o .before .before .before .before .before in
     let r = p .before .before in
     let l = r .before .before in
     let s = l .before .before in
-    let q = s .pre in
+    let q = s .pre .0 in
     let t = q .file-taken in
     let i = l .loop .i in
     let v = l .loop .inv in
@@ -62,23 +61,19 @@ loop-again c =
     let first = first-at (sheetOf (s .args .f .now)) (sound _ _ t) (s .args .firsts .now) (s .args .a .kinds) (kinds-are _ _ t) (q .first-is) i w₁ w in
     let step =
     turn (sheetOf (s .args .f .now)) (sound _ _ t) i (l .loop .seen) (l .loop .packed) (v .2) counts k (getD (s .args .firsts .now) w₁ 0) (o .slot .result) w₁
-    (c .one-if .result)
-    first (line .instance) (ap (λ (x : Line). x .instance) el) (o .slot .ensures .0) w (c .one-if .ensures .0) in
+    (one .one-if .result)
+    first (line .instance) (ap (λ (x : Line). x .instance) el) (o .slot .ensures .0) w (one .one-if .ensures .0) in
     (omega arith, rw (add-one, ← (v .1)) (rw (step .0)), rw add-one (step .1))
 
 returns : tie.Need-returns Inv-loop μ-loop
+unfolding packed
 returns c =
-    let l = c .before .before .before .before in
+    let l = c .before in
     let s = l .before .before in
-    let q = s .pre in
-    let t = q .file-taken in
+    let t = s .pre .0 .file-taken in
     let v = l .loop .inv in
-    let m = kinds-are _ _ t in
-    let e : l .loop .i ≡ s .args .a .lines = omega arith in (
-      rw e at (v .1),
-      c .short-column .ensures
-          ∙ filled-same _ _ _ _ (λ k below. short-is _ (sound _ _ t) _ _ _ _ (v .2) (e ∙ lines-are _ _ t) k (rw (← m) below) (q .many-is k below)),
-    )
+    let e : l .loop .i ≡ s .args .a .lines = omega arith in
+    (rw e at (v .1), λ k below. v .2 .sums k (rw (← (kinds-are _ _ t)) below) ∙ ap (sumBelow _) (e ∙ lines-are _ _ t))
 
 abbrev place-of-line : (c : tie.After-one-if Inv-loop μ-loop) → tie.After-place-within Inv-loop μ-loop
 place-of-line c = c .before .before .before .before .before .before
@@ -89,10 +84,11 @@ one-more c = inside (place-of-line c .before .before .before)
 
 add-packed : tie.Need-add-packed Inv-loop μ-loop
 add-packed c =
-    let p = place-of-line c in
+    let one = c .before in
+    let p = place-of-line one in
     let l = p .before .before .before .before in
     let h = l .loop .inv .2 .few (p .place-within .result) (p .place-within .ensures .1) in
-    omega (arith, h, c .one-if .ensures .1, one-more c, l .loop .inv .0)
+    omega (arith, h, one .one-if .ensures .1, one-more one, l .loop .inv .0)
 
 pub mark-columns-spec : {M : Type 1} → statement M
 mark-columns-spec =
@@ -119,10 +115,9 @@ mark-columns-spec =
     (λ c. omega (arith, place-of-line c .place-within .ensures .1))
     (λ c. omega (arith, place-of-line c .place-within .ensures .1))
     add-packed
-    (λ c. omega (arith, place-of-line c .place-within .ensures .1))
-    (λ c. omega (arith, place-of-line c .place-within .ensures .1))
-    (λ c. omega (arith, one-more c))
+    (λ c. omega (arith, place-of-line (c .before) .place-within .ensures .1))
+    (λ c. omega (arith, place-of-line (c .before) .place-within .ensures .1))
+    (λ c. omega (arith, one-more (c .before)))
     (λ c. omega arith)
     loop-again
-    short-column-requires
     returns)

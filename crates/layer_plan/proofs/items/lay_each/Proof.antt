@@ -6,6 +6,7 @@ use native.Mathlib.Omega.{arith}
 use native.Mathlib.Numerals.{add-one}
 use borrow.Author.Needs.{needs}
 use Rattle.file_read.specs.Reading.{sheetOf}
+use Rattle.file_read.specs.Records.{container-is}
 use Rattle.layer_state.specs.declared.stand.Stand.{Stand}
 use Rattle.layer_state.specs.Stand.{noStep}
 use Rattle.layer_fill.specs.Fill.{empty, took}
@@ -13,32 +14,40 @@ use Rattle.layer_plan.specs.Run.{runFrom}
 use Rattle.layer_plan.specs.Offers.{itemOffer}
 use Rattle.sheet.specs.Columns.{columns}
 use Rattle.layer_plan.specs.Columns.{Holds, shown-none, holds-more, run-long}
+use Rattle.layer_plan.specs.Laid.{shows}
 use Rattle.layer_plan.proofs.items.lay_each.Statement.{statement}
 use Rattle.layer_plan.proofs.items.lay_each.Tie as tie
 
 abbrev Inv-loop : tie.InvT-loop
-Inv-loop f records items n ids₀ instances₀ turns₀ xs₀ ys₀ zs₀ stand₀ count₀ j₀ ids instances turns xs ys zs stand count j =
+Inv-loop f records items n ids₀ instances₀ turns₀ xs₀ ys₀ zs₀ stand₀ held₀ j₀ ids instances turns xs ys zs stand held j =
     (j ≤ n)
-    × (count ≤ j)
-    × Holds (runFrom (empty (stand₀ .container)) (sheetOf f .kinds) (itemOffer records items) j) stand count
+    × (held ≤ j)
+    × Holds (runFrom (empty (stand₀ .container)) (sheetOf f .kinds) (itemOffer records items) j) stand held
     (columns ids₀ instances₀ turns₀ xs₀ ys₀ zs₀) (columns ids instances turns xs ys zs)
 
 abbrev μ-loop : tie.MeasureT-loop
-μ-loop f records items n ids₀ instances₀ turns₀ xs₀ ys₀ zs₀ stand₀ count₀ j₀ ids instances turns xs ys zs stand count j = n - j
+μ-loop f records items n ids₀ instances₀ turns₀ xs₀ ys₀ zs₀ stand₀ held₀ j₀ ids instances turns xs ys zs stand held j = n - j
 
 loop-holds : tie.Need-loop-holds Inv-loop μ-loop
 unfolding runFrom
 loop-holds c = (omega arith, omega arith, record { stand-is = rw (c .new .ensures); count-is = refl; columns-are = shown-none _ _ refl })
 
 try-item-requires : tie.Need-try-item-requires Inv-loop μ-loop
-try-item-requires c κs = (c .before .before .before .before .before .before .pre, omega arith)
+try-item-requires c κs = (c .before .before .before .before .before .before .before .pre, omega arith)
 
 put-line-requires : tie.Need-put-line-requires Inv-loop μ-loop
 put-line-requires c κs =
     let v = c .before .before .before .before .before .before in
     let l = v .before .before .before in
-    let few = l .before .before .before .before .before .pre .few in
+    let few = l .before .before .before .before .before .before .pre .few in
     omega arith
+
+add-j : tie.Need-add-j Inv-loop μ-loop
+add-j c =
+    let v = c .before .before .before .before .before .before .before .before in
+    let l = v .before .before .before in
+    let few = l .before .before .before .before .before .before .pre .few in
+    omega (arith, v .before .before .loop-test .taken)
 
 loop-again : tie.Need-loop-again Inv-loop μ-loop
 unfolding runFrom
@@ -47,7 +56,7 @@ loop-again c =
     let v = q .before .before .before .before .before .before .before in
     let i = v .before in
     let l = i .before .before in
-    let s = l .before .before .before .before .before in
+    let s = l .before .before .before .before .before .before in
     let kinds = sheetOf (s .args .f .now) .kinds in
     let offer = itemOffer (s .args .records .now) (s .args .items .now) in
     let e = l .before .new .result .container in
@@ -56,23 +65,22 @@ loop-again c =
     let tries = i .try-item .ensures in
     let h = l .loop .inv .2 in
     let few = s .pre .few in
-    let n = h .count-is in
     let stays : tried .step .fits ≡ false → tried .step ≡ noStep (g .stand) = rw (← (h .stand-is)) (tries .stays) in
     let turn : took g (tried .step) (tried .id) (tried .instance) ≡ runFrom (empty e) kinds offer (l .loop .j + 1) =
     rw (add-one (l .loop .j)) (tries .took-is g (sym (h .stand-is))) in
     let grown = q .put-line .ensures .few in (
       omega arith,
       omega arith,
-      rw (← turn)
-          (holds-more g (tried .step) (tried .id) (tried .instance) (q .put-line .result) _ _ (run-long e kinds offer (l .loop .j)) (omega arith) stays
-          (rw (← n) (q .put-line .ensures .count-is)) (rw (← n, ← (h .columns-are)) (q .put-line .ensures .columns-are))),
+      rw (← turn) (holds-more g _ (tried .step) _ _ _ _ _ _ _ (run-long e kinds offer (l .loop .j)) (omega arith) stays h (q .put-line .ensures)),
     )
 
 returns : tie.Need-returns Inv-loop μ-loop
 returns c =
-    let l = c .before in
-    let e : l .loop .j ≡ l .before .before .before .before .before .args .n = omega arith in
-    rw (ap (λ (v : Stand). v .container) (l .before .new .ensures)) at (rw e at (l .loop .inv .2))
+    let l = c .before .before in
+    let s = l .before .before .before .before .before .before in
+    let e : l .loop .j ≡ s .args .n = omega arith in
+    let b = ap (λ (v : Stand). v .container) (l .before .new .ensures) ∙ l .before .before .container-in .ensures ∙ container-is _ (s .pre .can-read) in
+    rw (c .utilization .ensures) (shows _ _ _ _ _ _ (rw b at (rw e at (l .loop .inv .2))))
 
 pub lay-each-spec : {M : Type 1} → statement M
 lay-each-spec =
@@ -81,10 +89,12 @@ lay-each-spec =
     Inv-loop
     μ-loop
     (λ c κs. search needs)
+    (λ c κs. search needs)
     loop-holds
     try-item-requires
     put-line-requires
-    (λ c. omega arith)
+    add-j
     (λ c. omega arith)
     loop-again
+    (λ c κs. search needs)
     returns)

@@ -1,20 +1,20 @@
 -- `items::lay_items` meets its contract: a refusal in its turn, or the fill of the items.
 use mathlib.Core.Path.{_≡_, sym, ap, _∙_}
-use mathlib.Core.Bool.{Bool, true, false}
+use mathlib.Core.Bool.{Bool}
 use mathlib.Core.List.{List}
 use Prim.Native.Nat.{ℕ}
-use native.Mathlib.Omega.{arith}
 use borrow.Author.Needs.{needs}
 use borrow.Author.Tests.{ltb-false}
 use Rattle.lists.specs.Bools.{or-left}
 use Rattle.lists.specs.Below.{anyBelow}
 use Rattle.sheet.specs.declared.Counts.{Counts}
 use Rattle.file_read.specs.Reading.{sheetOf}
-use Rattle.file_read.specs.Records.{container-is, many-is}
+use Rattle.file_read.specs.Records.{many-is}
 use Rattle.file_accept.specs.declared.Accepted.{Accepted}
 use Rattle.file_accept.specs.Accept.{Taken, taken, refusal-is}
 use Rattle.layer_instances.specs.Records.{recordsIn, isStranger}
-use Rattle.layer_plan.specs.Laid.{lays-refused, lays-made}
+use Rattle.plan_sheet.specs.Refused.{lays-refused}
+use Rattle.layer_plan.specs.Laid.{lays-made}
 use Rattle.layer_plan.specs.Items.{fit, items-over, items-refused, items-strange, items-made}
 use Rattle.layer_plan.proofs.items.lay_items.Statement.{statement}
 use Rattle.layer_plan.proofs.items.lay_items.Tie as tie
@@ -49,7 +49,7 @@ returns-3 c =
 
 lay-each-requires : tie.Need-lay-each-requires
 lay-each-requires c κs =
-    let m = c .before .before .before .before .before .before .before in
+    let m = c .before .before .before .before .before .before in
     let g = m .before in
     let h = g .before in
     let t = known (h .before) in
@@ -59,9 +59,7 @@ lay-each-requires c κs =
 
 returns-4 : tie.Need-returns-4
 returns-4 c =
-    let b = c .before .before in
-    let k = b .before .before .before .before .before .before .before in
-    let m = k .before in
+    let m = c .before .before .before .before .before .before .before in
     let g = m .before in
     let h = g .before in
     let s = h .before .before .before .before .before .before .before .before .args in
@@ -69,8 +67,7 @@ returns-4 c =
     let made = rw (← (m .smaller .ensures)) at
     (items-made (s .order .now) (s .records .now) (s .items .now) (s .consider) (h .before .before .before .before .if1 .left) (t .sound) (t .can-read .shape)
     (of-sheet _ _ _ _ t (sym (h .has-stranger .ensures) ∙ g .if3 .left))) in
-    let holds = rw (k .container-in .ensures ∙ container-is _ (t .can-read)) at (b .lay-each .ensures) in
-    rw (c .utilization .ensures) (lays-made _ _ _ _ _ _ _ made holds)
+    lays-made _ _ _ _ _ _ made (c .lay-each .ensures)
 
 pub lay-items-spec : {M : Type 1} → statement M
 lay-items-spec =
@@ -86,7 +83,5 @@ lay-items-spec =
     (λ c κs. search needs)
     returns-3
     (λ c κs. search needs)
-    (λ c κs. search needs)
     lay-each-requires
-    (λ c κs. search needs)
     returns-4)

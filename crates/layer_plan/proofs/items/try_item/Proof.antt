@@ -1,6 +1,6 @@
 -- `items::try_item` meets its contract, by the test that led to each return.
-use Prim.Native.Nat.{_*_, _+_}
-use mathlib.Core.Path.{_≡_, _∙_}
+use Prim.Native.Nat.{_*_}
+use mathlib.Core.Path.{_∙_}
 use native.Mathlib.Omega.{arith}
 use borrow.Author.Needs.{needs}
 use borrow.Author.Tests.{lt-ltb, le-ltb}

@@ -8,30 +8,31 @@ use borrow.Author.Needs.{needs}
 use Rattle.sheet.specs.Sheets.{kindAt, quantityOf}
 use Rattle.file_read.specs.Form.{countsOf}
 use Rattle.file_read.specs.Reading.{sheetOf}
-use Rattle.file_read.specs.Records.{bounds, kind-is}
+use Rattle.file_read.specs.Records.{bounds, container-is, kind-is}
 use Rattle.plan_boxes.specs.Turns.{turnOf}
 use Rattle.layer_state.specs.declared.stand.Stand.{Stand}
 use Rattle.layer_state.specs.Stand.{noStep}
 use Rattle.layer_state.specs.Best.{placeBestOf, best-stays}
 use Rattle.layer_fill.specs.Fill.{empty, took}
-use Rattle.layer_instances.specs.Turns.{next-box}
+use Rattle.plan_boxes.specs.Files.{next-box}
 use Rattle.layer_plan.specs.Run.{runFrom, offered}
 use Rattle.layer_plan.specs.Offers.{bestOffer}
 use Rattle.sheet.specs.Columns.{columns}
 use Rattle.layer_plan.specs.Columns.{Holds, shown-none, holds-more, run-long}
+use Rattle.layer_plan.specs.Laid.{shows}
 use Rattle.layer_plan.proofs.order.lay_boxes.Statement.{statement}
 use Rattle.layer_plan.proofs.order.lay_boxes.Tie as tie
 
 abbrev Inv-loop : tie.InvT-loop
-Inv-loop f n ids₀ instances₀ turns₀ xs₀ ys₀ zs₀ stand₀ u₀ count₀ t₀ ids instances turns xs ys zs stand u count t =
+Inv-loop f n ids₀ instances₀ turns₀ xs₀ ys₀ zs₀ stand₀ u₀ held₀ t₀ ids instances turns xs ys zs stand u held t =
     (t ≤ n)
-    × (count ≤ t)
+    × (held ≤ t)
     × (u ≡ turnOf (sheetOf f .kinds) t)
-    × Holds (runFrom (empty (stand₀ .container)) (sheetOf f .kinds) (bestOffer (sheetOf f .kinds)) t) stand count
+    × Holds (runFrom (empty (stand₀ .container)) (sheetOf f .kinds) (bestOffer (sheetOf f .kinds)) t) stand held
     (columns ids₀ instances₀ turns₀ xs₀ ys₀ zs₀) (columns ids instances turns xs ys zs)
 
 abbrev μ-loop : tie.MeasureT-loop
-μ-loop f n ids₀ instances₀ turns₀ xs₀ ys₀ zs₀ stand₀ u₀ count₀ t₀ ids instances turns xs ys zs stand u count t = n - t
+μ-loop f n ids₀ instances₀ turns₀ xs₀ ys₀ zs₀ stand₀ u₀ held₀ t₀ ids instances turns xs ys zs stand u held t = n - t
 
 loop-holds : tie.Need-loop-holds Inv-loop μ-loop
 unfolding turnOf runFrom
@@ -39,22 +40,30 @@ loop-holds c =
     (omega arith, omega arith, refl, record { stand-is = rw (c .new .ensures); count-is = refl; columns-are = shown-none _ _ refl })
 
 -- the kind of the turn's box is one of the file's, and what is read there is the sheet's
-within : (c : tie.After-kind-in Inv-loop μ-loop) → c .before .before .loop .u .kind < countsOf (c .before .before .before .before .before .args .f .now) .kinds
+within : (c : tie.After-kind-in Inv-loop μ-loop)
+    → c .before .before .loop .u .kind < countsOf (c .before .before .before .before .before .before .args .f .now) .kinds
 within c =
     let l = c .before .before in
-    let s = l .before .before .before in
+    let s = l .before .before .before .before in
     rw (l .loop .inv .2) (s .pre .kind-within (l .loop .t) (omega arith))
 
 kind-read : (c : tie.After-kind-in Inv-loop μ-loop)
-    → c .kind-in .result ≡ kindAt (sheetOf (c .before .before .before .before .before .args .f .now)) (c .before .before .loop .u .kind)
-kind-read c = c .kind-in .ensures ∙ kind-is _ _ (c .before .before .before .before .before .pre .can-read) (within c)
+    → c .kind-in .result ≡ kindAt (sheetOf (c .before .before .before .before .before .before .args .f .now)) (c .before .before .loop .u .kind)
+kind-read c = c .kind-in .ensures ∙ kind-is _ _ (c .before .before .before .before .before .before .pre .can-read) (within c)
 
 put-line-requires : tie.Need-put-line-requires Inv-loop μ-loop
 put-line-requires c κs =
     let p = c .before .before .before .before .before .before in
     let l = p .before .before .before in
-    let few = l .before .before .before .pre .few in
+    let few = l .before .before .before .before .pre .few in
     omega arith
+
+add-t : tie.Need-add-t Inv-loop μ-loop
+add-t c =
+    let p = c .before .before .before .before .before .before .before .before .before in
+    let l = p .before .before .before in
+    let few = l .before .before .before .before .pre .few in
+    omega (arith, p .before .before .loop-test .taken)
 
 loop-again : tie.Need-loop-again Inv-loop μ-loop
 unfolding runFrom offered bestOffer turnOf quantityOf
@@ -63,7 +72,7 @@ loop-again c =
     let p = q .before .before .before .before .before .before .before in
     let k = p .before in
     let l = k .before .before in
-    let s = l .before .before .before in
+    let s = l .before .before .before .before in
     let kinds = sheetOf (s .args .f .now) .kinds in
     let t = l .loop .t in
     let e = l .before .new .result .container in
@@ -71,7 +80,6 @@ loop-again c =
     let step = p .place-best .result in
     let h = l .loop .inv .3 in
     let few = s .pre .few in
-    let n = h .count-is in
     let w = within k in
     let b = bounds _ (s .pre .can-read) in
     let r = kind-read k in
@@ -83,16 +91,16 @@ loop-again c =
       omega arith,
       omega arith,
       c .next-box .ensures ∙ next-box _ _ (omega arith) ∙ rw (add-one, r, l .loop .inv .2),
-      rw (← turn)
-          (holds-more g step (k .kind-in .result .id) (l .loop .u .instance) (q .put-line .result) _ _ (run-long e kinds (bestOffer kinds) t) (omega arith) stays
-          (rw (← n) (q .put-line .ensures .count-is)) (rw (← n, ← (h .columns-are)) (q .put-line .ensures .columns-are))),
+      rw (← turn) (holds-more g _ step _ _ _ _ _ _ _ (run-long e kinds (bestOffer kinds) t) (omega arith) stays h (q .put-line .ensures)),
     )
 
 returns : tie.Need-returns Inv-loop μ-loop
 returns c =
-    let l = c .before in
-    let e : l .loop .t ≡ l .before .before .before .args .n = omega arith in
-    rw (ap (λ (v : Stand). v .container) (l .before .new .ensures)) at (rw e at (l .loop .inv .3))
+    let l = c .before .before in
+    let s = l .before .before .before .before in
+    let e : l .loop .t ≡ s .args .n = omega arith in
+    let b = ap (λ (v : Stand). v .container) (l .before .new .ensures) ∙ l .before .before .container-in .ensures ∙ container-is _ (s .pre .can-read) in
+    rw (c .utilization .ensures) (shows _ _ _ _ _ _ (rw b at (rw e at (l .loop .inv .3))))
 
 pub lay-boxes-spec : {M : Type 1} → statement M
 lay-boxes-spec =
@@ -101,12 +109,14 @@ lay-boxes-spec =
     Inv-loop
     μ-loop
     (λ c κs. search needs)
+    (λ c κs. search needs)
     loop-holds
     (λ c κs. search needs)
     (λ c κs. search needs)
     put-line-requires
     (λ c κs. search needs)
-    (λ c. omega arith)
+    add-t
     (λ c. omega arith)
     loop-again
+    (λ c κs. search needs)
     returns)

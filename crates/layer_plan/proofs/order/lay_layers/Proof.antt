@@ -1,31 +1,34 @@
 -- `order::lay_layers` meets its contract: the file's refusal, or the fill of its order.
 use mathlib.Core.Path.{_≡_, ap, _∙_}
-use Prim.Native.Nat.{_≤_}
 use native.Mathlib.Omega.{arith}
 use borrow.Author.Needs.{needs}
 use Rattle.sheet.specs.Accepted.{accepted}
 use Rattle.file_read.specs.Reading.{sheetOf}
-use Rattle.file_read.specs.Records.{container-is}
+use Rattle.file_read.specs.Refusal.{sheet-sound}
 use Rattle.file_accept.specs.declared.Accepted.{Accepted}
 use Rattle.file_accept.specs.Accept.{Taken, taken, refusal-is}
 use Rattle.plan_sheet.specs.Boxes.{smaller, smaller-le}
-use Rattle.layer_instances.specs.Turns.{boxes-from, in-file}
-use Rattle.layer_instances.specs.Instances.{total, sheet-sound}
-use Rattle.layer_plan.specs.Laid.{lays-refused, refused-in, filled-in, lays-made}
+use Rattle.plan_boxes.specs.Files.{boxes-from, in-file}
+use Rattle.layer_instances.specs.Instances.{total}
+use Rattle.plan_sheet.specs.Refused.{lays-refused, refused-in}
+use Rattle.layer_plan.specs.Fills.{layerFillOf}
+use Rattle.layer_plan.specs.Laid.{filled-in, lays-made}
 use Rattle.layer_plan.proofs.order.lay_layers.Statement.{statement}
 use Rattle.layer_plan.proofs.order.lay_layers.Tie as tie
 
 returns : tie.Need-returns
 returns c =
-    let a = c .before .before in
-    lays-refused _ _ _ (refused-in _ _ _ (ap (λ (v : Accepted). v .refused) (a .accept .ensures) ∙ refusal-is _) (c .if1 .taken))
+    let t = c .before in
+    let a = t .before .before in
+    rw (c .refused-told .ensures)
+    (lays-refused _ _ _ (refused-in layerFillOf _ _ _ (ap (λ (v : Accepted). v .refused) (a .accept .ensures) ∙ refusal-is _) (t .if1 .taken)))
 
 -- past the test the file is accepted, and as many boxes are considered as it says
 known : (c : tie.Else1) → Taken (c .before .before .before .before .args .order .now) (c .before .before .accept .result)
 known c = taken _ _ (c .before .before .accept .ensures) (c .if1 .left)
 
 counted : (c : tie.After-smaller)
-    → c .smaller .result ≡ smaller (c .before .before .before .before .before .before .args .consider) (total (sheetOf (c .before .before .before .before .before .before .args .order .now)))
+    → let a = c .before .before .before .before .before .before .args in c .smaller .result ≡ smaller (a .consider) (total (sheetOf (a .order .now)))
 counted c =
     let b = c .before in
     let t = known (b .before) in
@@ -34,31 +37,28 @@ counted c =
 
 lay-boxes-requires : tie.Need-lay-boxes-requires
 lay-boxes-requires c κs =
-    let m = c .before .before .before .before .before .before .before in
+    let m = c .before .before .before .before .before .before in
     let t = known (m .before .before) in
     let e = counted m in
-    let l = smaller-le (m .before .before .before .before .before .before .args .consider) (total (sheetOf (m .before .before .before .before .before .before .args .order .now))) in
+    let a = m .before .before .before .before .before .before .args in
+    let l = smaller-le (a .consider) (total (sheetOf (a .order .now))) in
     in-file _ _ (t .can-read) (accepted _ (sheet-sound _ (t .sound))) (omega arith)
 
 returns-2 : tie.Need-returns-2
 returns-2 c =
-    let b = c .before .before in
-    let k = b .before .before .before .before .before .before .before in
-    let m = k .before in
+    let m = c .before .before .before .before .before .before .before in
     let t = known (m .before .before) in
     let made = rw (← (counted m)) at (filled-in _ (m .before .before .before .before .before .before .args .consider) (t .sound)) in
-    let holds = rw (k .container-in .ensures ∙ container-is _ (t .can-read)) at (b .lay-boxes .ensures) in
-    rw (c .utilization .ensures) (lays-made _ _ _ _ _ _ _ made holds)
+    lays-made _ _ _ _ _ _ made (c .lay-boxes .ensures)
 
 pub lay-layers-spec : {M : Type 1} → statement M
 lay-layers-spec =
     tie.close
     (tie.spec
     (λ c κs. search needs)
+    (λ c κs. search needs)
     returns
     (λ c κs. search needs)
     (λ c κs. search needs)
-    (λ c κs. search needs)
     lay-boxes-requires
-    (λ c κs. search needs)
     returns-2)

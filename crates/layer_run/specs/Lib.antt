@@ -1,2 +1,0 @@
--- The layer placer's runs over an order and over given items.
-pub mod Fills

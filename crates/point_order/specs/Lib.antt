@@ -1,0 +1,3 @@
+-- The places of boxes by falling volume, and how they are put in one by one.
+pub mod Order
+pub mod Insert
