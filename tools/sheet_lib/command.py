@@ -1,16 +1,18 @@
 """What the commands of tools/sheet and ./waikurpeho share: files in and out, and errors that a person can act on."""
 import os
 import sys
+import tempfile
+import traceback
 
-from . import findings, load_file, picture, text
+from . import findings, load_file, streams, text
 
 
 class Problem(Exception):
-    """Ends a command with a message and an exit status."""
+    """Ends a command with a message and an exit status. refused: the number of the refusal that brings it, or 0."""
 
-    def __init__(self, message, status=2):
+    def __init__(self, message, status=2, refused=0):
         super().__init__(message)
-        self.status = status
+        self.status, self.refused = status, refused
 
 
 # ---- words of the command line
@@ -29,6 +31,18 @@ def take_output(words):
     if not os.path.isdir(os.path.dirname(out) or '.'):
         raise Problem('%s cannot be written: there is no folder %s' % (out, os.path.dirname(out)))
     return rest, out
+
+
+def take_options(words, known):
+    """Takes '--NAME' and '--NAME=VALUE' out of the words. Gives the rest, and the values by name, None where there is none."""
+    rest, found = [word for word in words if not word.startswith('--')], {}
+    for word in words:
+        if word.startswith('--'):
+            name, equals, value = word[2:].partition('=')
+            if name not in known or (equals and name != 'csv'):
+                raise Problem("'%s' is not an option here; the options are %s" % (word, ', '.join('--' + each for each in known)))
+            found[name] = value or None
+    return rest, found
 
 
 def want(words, count, usage):
@@ -57,10 +71,10 @@ def is_text(name):
     return name.lower().endswith('.txt')
 
 
-def read_text(name):
+def text_sheet(data, name):
     """A text's sheet, and where in it the kinds and lines stand."""
     try:
-        return text.read(read_bytes(name))
+        return text.read(data)
     except text.TextError as error:
         faults = ['%s: line %d: %s' % (name, *fault) for fault in error.faults[:20]]
         if len(error.faults) > 20:
@@ -68,23 +82,11 @@ def read_text(name):
         raise Problem('\n'.join(faults)) from None
 
 
-def read_file(name):
-    return sheet_of(read_bytes(name), name)
-
-
 def sheet_of(data, name):
     try:
         return load_file.read(data)
     except load_file.FileError as error:
-        hint = ''
-        if not data.endswith(bytes(load_file.MARK)) and b'\0' not in data and data.strip():
-            hint = ' (a text form? Then its name must end in .txt)'
-        raise Problem('%s: %s%s' % (name, error, hint)) from None
-
-
-def read_sheet(name):
-    """A sheet from a text or a load file, by its name. For a text also where its kinds and lines stand, else None."""
-    return read_text(name) if is_text(name) else (read_file(name), None)
+        raise Problem('%s: %s' % (name, error)) from None
 
 
 def read_findings(name):
@@ -97,40 +99,48 @@ def read_findings(name):
 # ---- what goes out
 
 def put(out, data, inputs):
-    """Writes text or bytes to a file, or to standard output where out is None or '-'."""
+    """Writes text or bytes to a file. Where out is None or '-' it gives them back as bytes, for standard output."""
     data = data.encode('utf-8') if isinstance(data, str) else data
     if out in (None, '-'):
         if b'\0' in data and sys.stdout.isatty():
             raise Problem('a load file is not for the screen: give -o FILE')
-        sys.stdout.flush()
-        sys.stdout.buffer.write(data)
-        return
+        return data
     if any(os.path.exists(out) and os.path.exists(name) and os.path.samefile(out, name) for name in inputs):
         raise Problem('%s is what was read: give -o another name' % out)
     try:
         _write(out, data)
     except OSError as error:
         raise Problem('%s cannot be written: %s' % (out, error.strerror)) from None
+    return b''
 
 
 def _write(out, data):
     """Writes a file whole or not at all: beside its place, and then moved into it. What is no plain file is written as it is."""
-    out = os.path.realpath(out)
     if os.path.exists(out) and not os.path.isfile(out):
         with open(out, 'wb') as target:
             target.write(data)
         return
-    beside = '%s.%d.part' % (out, os.getpid())
+    out = os.path.realpath(out)
+    number, beside = tempfile.mkstemp('.part', '.waikurpeho.', os.path.dirname(out))
     try:
-        with open(beside, 'wb') as target:
+        with open(number, 'wb') as target:
             target.write(data)
-        if os.path.exists(out):
-            os.chmod(beside, os.stat(out).st_mode & 0o7777)
+            target.flush()
+            os.fsync(number)
+            os.fchmod(number, _mode(out))
         os.replace(beside, out)
     except BaseException:
-        if os.path.exists(beside):
-            os.remove(beside)
+        os.remove(beside)
         raise
+
+
+def _mode(out):
+    """The mode that a file has, or that a new one gets."""
+    if os.path.exists(out):
+        return os.stat(out).st_mode & 0o7777
+    mask = os.umask(0)
+    os.umask(mask)
+    return 0o666 & ~mask
 
 
 def as_text(sheet, name):
@@ -140,62 +150,64 @@ def as_text(sheet, name):
         raise Problem('%s: %s' % (name, error)) from None
 
 
-def draw(sheet, result, name):
+def draw(sheet, result, name, engine=None):
+    # loaded here, as it takes a while that other commands need not wait
+    from . import picture
     refused = bool(result) and result.refused not in (0, 6)
     try:
-        return picture.draw(sheet, result, os.path.basename(name))
+        # a name may have bytes that are no UTF-8
+        return picture.draw(sheet, result, os.fsencode(os.path.basename(name)).decode('utf-8', 'replace'), engine)
     except load_file.FileError as error:
         raise Problem('%s: %s' % (name, error), 1 if refused else 2) from None
 
 
-def with_sentences(result, places):
-    """What check_sheet printed, and below each line a comment that says it in words."""
+def with_sentences(result, places=None, parts=None, names=()):
+    """What check_sheet printed, and below each line a comment that says it in words. parts: what the sheet has, in words. names: those of its
+    kinds, by id."""
     if result.refused:
         needed = '' if result.needed is None else ' %d' % result.needed
         return 'refused %d%s\n    # %s\n' % (result.refused, needed, findings.refusal_in_words(result.refused))
     out = ['findings %d' % len(result.findings)]
     for finding in result.findings:
-        out += [finding.said, '    # ' + findings.in_words(finding, places)]
-    return '\n'.join(out) + '\n'
+        out += [finding.said, '    # ' + findings.in_words(finding, places, names)]
+    if not result.findings:
+        out.append('    # looked at %s: %s' % (parts or 'the sheet', findings.LOOKED_FOR))
+    return '\n'.join(out + ['    # ' + findings.NOT_JUDGED, '    # ' + findings.UPWARDS]) + '\n'
 
 
 # ---- the command itself
 
 def main(commands, words):
     """Runs the command that the first word names, and ends the program with its status."""
+    streams.settle(_program())
+    sys.exit(streams.flushed(_status(commands, words)))
+
+
+def _status(commands, words):
+    """What a command ends with, and whatever happens it is not 1 but where the command says so."""
     try:
-        status = _run(commands, words)
-        sys.stdout.flush()
+        return _run(commands, words) or 0
     except Problem as problem:
-        for line in str(problem).split('\n'):
-            print('%s: %s' % (_program(), line), file=sys.stderr)
-        status = problem.status
-    except BrokenPipeError:
-        _let_go()
-        status = 2
+        streams.tell(str(problem))
+        return problem.status
+    except streams.Lost as lost:
+        return streams.lost(lost.args[0])
     except OSError as error:
-        _let_go()
-        print('%s: standard output cannot be written: %s' % (_program(), error.strerror), file=sys.stderr)
-        status = 2
+        # files are read and written above with words of their own
+        streams.tell(str(error))
+        return 2
     except KeyboardInterrupt:
-        status = 2
-    sys.exit(status or 0)
-
-
-def _let_go():
-    """Lets what is left in standard output's buffer go nowhere, so that the end of the program does not try it again."""
-    try:
-        os.dup2(os.open(os.devnull, os.O_WRONLY), 1)
-    except OSError:
-        pass
+        return 2
+    except Exception:  # a fault of this tool
+        streams.tell(traceback.format_exc().rstrip())
+        return 2
 
 
 def _run(commands, words):
     if not words:
         words = ['help']
     name, words = words[0], words[1:]
-    if name in ('-h', '--help'):
-        name = 'help'
+    name = {'-h': 'help', '--help': 'help', '--version': 'version'}.get(name, name)
     if name not in commands:
         raise Problem("there is no command '%s'%s; the commands are %s" % (name, text.near(name, commands), ', '.join(commands)))
     if words in (['-h'], ['--help']):

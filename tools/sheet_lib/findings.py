@@ -27,6 +27,18 @@ FORMS = {
     'wrongly-unplaced': (('id',), 'kind {0}: listed as unplaced, but complete, listed before, or not a kind of this sheet'),
 }
 
+# What each of a finding's fields is called in JSON and CSV (docs/OUTPUT.md).
+NAMES = {
+    'unknown': ('line', 'kind'), 'out-of-range': ('line', 'kind', 'instance', 'quantity'), 'repeated': ('line', 'kind', 'instance'),
+    'orientation': ('line', 'kind', 'orientation'), 'bin': ('line', 'bin'), 'outside': ('line', 'kind'), 'overlap': ('line', 'other_line'),
+    'too-close': ('line', 'other_line', 'distance', 'spacing'), 'mass': ('mass', 'limit'), 'missing': ('kind',), 'wrongly-unplaced': ('kind',),
+}
+
+# What a check looks for, and what it does not judge.
+LOOKED_FOR = 'ids, instances, orientations, bins, walls and margin, overlaps, spacing, mass, missing and wrongly unplaced kinds'
+NOT_JUDGED = "support and stability are not judged: that stays with the depot's test bench"
+UPWARDS = 'spacing and margin hold upwards too, so boxes may stand off each other'
+
 REFUSALS = {
     1: 'the shape of the load file is wrong',
     2: 'a count or the total quantity is over its bound',
@@ -96,6 +108,12 @@ def float_of(bits):
     return struct.unpack('>d', bytes.fromhex(bits))[0]
 
 
+def parts(sheet):
+    """What a sheet has, in words."""
+    counts = ((len(sheet.kinds), 'kind'), (len(sheet.lines), 'line'), (len(sheet.unplaced), 'unplaced id'))
+    return ', '.join('%d %s%s' % (count, name, '' if count == 1 else 's') for count, name in counts)
+
+
 def lines_of(finding):
     """The numbers of the lines that a finding is on."""
     return [value for value, field in zip(finding.fields, FORMS[finding.name][0]) if field == 'line']
@@ -107,10 +125,11 @@ def kinds_of(finding):
     return [] if 'line' in fields else [value for value, field in zip(finding.fields, fields) if field == 'id']
 
 
-def in_words(finding, places=None):
-    """A finding as a sentence. places: where each line stands in the text that the sheet came from."""
+def in_words(finding, places=None, names=()):
+    """A finding as a sentence. places: where each line stands in the text that the sheet came from. names: those of its kinds, by id."""
     fields, form = FORMS[finding.name]
-    values = [_plain(value) if field == 'bits' else value for value, field in zip(finding.fields, fields)]
+    said = {'bits': _plain, 'id': lambda number: text.kind_said(number, names)}
+    values = [said[field](value) if field in said else value for value, field in zip(finding.fields, fields)]
     said = form.format(*values)
     rows = [places[line] for line in lines_of(finding) if line < len(places)] if places else []
     if rows:

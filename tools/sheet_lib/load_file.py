@@ -6,9 +6,9 @@ writes what it is given. The proved programs judge.
 import struct
 from collections import namedtuple
 
-# limit None: no limit. mass None: the kind has no mass. rule: a place in RULES.
+# limit None: no limit. mass None: the kind has no mass. rule: a place in RULES. name: only a text has it, and no file; None where it doesn't.
 Sheet = namedtuple('Sheet', 'size margin spacing limit kinds lines unplaced')
-Kind = namedtuple('Kind', 'id quantity size mass rule')
+Kind = namedtuple('Kind', 'id quantity size mass rule name', defaults=(None,))
 Line = namedtuple('Line', 'id instance orientation bin at')
 
 RULES = ('any', 'upright', 'fixed')

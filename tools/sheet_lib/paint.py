@@ -65,6 +65,10 @@ def path(line, stroke, width=1.0, fill='none'):
     return '<path d="%s" fill="%s" stroke="%s" stroke-width="%s"/>' % (line, fill, stroke, short(width))
 
 
+def dot(x, y, radius, fill):
+    return '<circle cx="%s" cy="%s" r="%s" fill="%s"/>' % (short(x), short(y), short(radius), fill)
+
+
 def text_width(words, size, bold=False):
     """About how wide words are on the page: wide rather than narrow, as fonts differ."""
     return len(words) * size * (0.70 if bold else 0.63)

@@ -1,18 +1,16 @@
-"""The proved programs: where they are, how what is missing is built, how they are run.
+"""The proved programs: where they are, and how they are run. What is missing, or older than its sources, is built.
 
-'rt check' builds them. They are for x86-64; on another processor they run in the toolchain's emulator.
+They are for x86-64; on another processor they run in the toolchain's emulator.
 """
 import functools
 import os
 import platform
 import shutil
 import subprocess
-import sys
 
-from . import findings
+from . import build, findings, streams
 from .command import Problem
 
-ROOT = os.path.dirname(os.path.dirname(os.path.dirname(os.path.realpath(__file__))))
 # The crates, by what they do.
 PLAN, CHECK, FILL = 'plan', 'check_sheet', 'sheet_fill'
 # How a program's line on the error stream begins where its input could not be read or its output not be written.
@@ -21,44 +19,27 @@ FAILED = 'failed: '
 
 @functools.lru_cache(maxsize=None)
 def program(name):
-    """The words that start a proved program; it is built if it is missing."""
+    """The words that start a proved program; it is built if it is missing or older than its sources."""
     folder = os.environ.get('WAIKURPEHO_PROGRAMS')
     if folder:
         # programs from elsewhere, run as they are
         path = os.path.join(folder, name)
         if not os.access(path, os.X_OK):
             raise Problem('WAIKURPEHO_PROGRAMS is %s, and there is no program %s in it' % (folder, name))
-        print('waikurpeho: %s is taken from %s and is not the proved one of this repository' % (name, folder), file=sys.stderr)
+        streams.tell('%s is taken from %s and is not the proved one of this repository' % (name, folder))
         return [path]
-    if not is_built(name):
-        build([name])
-    return runner() + [path_of(name)]
+    if not build.is_ready(name):
+        build.build([name])
+    return runner() + [build.path_of(name)]
 
 
-def path_of(name):
-    return os.path.join(ROOT, 'target', 'bin', name)
-
-
-def is_built(name):
-    # rt leaves the stamp once a program is proved and its own run went well
-    return os.path.isfile(path_of(name)) and os.path.isfile(os.path.join(ROOT, 'target', 'stamp', name))
-
-
-def build_missing(names):
-    """Builds what is missing of some programs in one go, which is quicker than one by one."""
-    missing = [name for name in names if not is_built(name)]
-    if missing and not os.environ.get('WAIKURPEHO_PROGRAMS'):
-        build(missing)
-
-
-def build(names):
-    said = ' '.join(names)
-    if not shutil.which('rt'):
-        raise Problem('%s must be built first, and rt is not on the PATH: install the Rattle toolchain, or add the folder of rt to PATH' % said)
-    print('waikurpeho: building %s: all that it rests on is proved first, which takes five to ten minutes from nothing' % said, file=sys.stderr)
-    done = subprocess.run(['rt', 'check'] + names, cwd=ROOT, stdin=subprocess.DEVNULL, stdout=sys.stderr)
-    if done.returncode or not all(map(is_built, names)):
-        raise Problem("'rt check %s' failed with status %d, so nothing can be run" % (said, done.returncode))
+def prepare(names):
+    """Makes programs ready to run. What is missing of them is built in one go, which is quicker than one by one."""
+    missing = [] if os.environ.get('WAIKURPEHO_PROGRAMS') else [name for name in names if not build.is_ready(name)]
+    if missing:
+        build.build(missing)
+    for name in names:
+        program(name)
 
 
 @functools.lru_cache(maxsize=None)

@@ -22,9 +22,10 @@ lengths are in one unit of your choice. A decimal is read as the nearest binary6
   margin LENGTH                   air along the walls; 0 if left out
   spacing LENGTH                  air between boxes; 0 if left out
   limit MASS                      the most mass that the case takes; 'limit none' or left out: no limit
-  kind ID quantity N size WIDTH DEPTH HEIGHT rule RULE mass MASS
+  kind ID name "WORDS" quantity N size WIDTH DEPTH HEIGHT rule RULE mass MASS
                                   N boxes of one kind. RULE says how it may be turned: any (six ways),
-                                  upright (two) or fixed (one). 'mass MASS' may be left out
+                                  upright (two) or fixed (one). 'mass MASS' may be left out, and the
+                                  name too: it is shown in lists and pictures, and no load file has it
 
 An order ends here. A sheet also says where boxes are and which kinds are short:
 
@@ -48,7 +49,10 @@ Places = namedtuple('Places', 'case kinds lines unplaced')
 MOST_WHOLE = 2 ** 32 - 1
 _NUMBER = re.compile(r'[+-]?([0-9]+(\.[0-9]*)?|\.[0-9]+)([eE][+-]?[0-9]+)?')
 _COMMA = re.compile(r'[+-]?[0-9]+,[0-9]+')
+_THOUSANDS = re.compile(r'[+-]?[1-9][0-9]{0,2}(,[0-9]{3})+(\.[0-9]+)?')
 _WHOLE = re.compile(r'[0-9]+')
+# A word of a line: what stands in quotes is one, with them.
+_WORD = re.compile(r'"[^"]*"|[^\s"#]+|["#]')
 # As different machines end a line.
 _LINE_END = re.compile(r'\r\n|\n|\r')
 
@@ -74,6 +78,9 @@ def _quoted(word):
 
 
 def _number(word, name):
+    if _THOUSANDS.fullmatch(word):
+        raise _Fault("%s: write %s, without a comma, not '%s'%s" % (
+            name, word.replace(',', ''), word, '; if it is a fraction, write it with a point' if word.count(',') == 1 and '.' not in word else ''))
     if _COMMA.fullmatch(word):
         raise _Fault("%s: write %s, with a point, not '%s'" % (name, word.replace(',', '.'), word))
     if not _NUMBER.fullmatch(word):
@@ -106,6 +113,26 @@ def _limit(word, name):
     return value
 
 
+def _name(word, name):
+    if not word.startswith('"'):
+        raise _Fault('%s: write it in quotes, like "drive tray", and not %s' % (name, _quoted(word)))
+    if not word[1:-1].strip() or not word.isprintable():
+        raise _Fault('%s: %s has nothing in it that a screen shows, or something that it does not' % (name, _quoted(word)))
+    return word[1:-1]
+
+
+def _words_of(line):
+    """The words of a line up to its comment."""
+    out = []
+    for word in _WORD.findall(line):
+        if word == '#':
+            break
+        if word == '"':
+            raise _Fault('a quote (") is opened in this line and not closed')
+        out.append(word)
+    return out
+
+
 def near(word, words):
     """A question after one of the words, if a word is like it, else nothing."""
     found = difflib.get_close_matches(word.lower(), list(words), 1)
@@ -119,12 +146,12 @@ _FIELDS = {
     'quantity': (1, _whole, 'N'), 'size': (3, _number, 'WIDTH DEPTH HEIGHT'),
     'mass': (1, _number, 'MASS'), 'rule': (1, _rule, 'RULE'),
     'instance': (1, _whole, 'N'), 'at': (3, _number, 'X Y Z'),
-    'orientation': (1, _whole, 'N'), 'bin': (1, _whole, 'N'),
+    'orientation': (1, _whole, 'N'), 'bin': (1, _whole, 'N'), 'name': (1, _name, '"WORDS"'),
 }
 # The entries that say one thing about the case, and those with fields: which must be there, and what the others are if left out.
 _CASE = ('container', 'margin', 'spacing', 'limit')
 _ENTRIES = {
-    'kind': (('quantity', 'size', 'rule'), {'mass': None}),
+    'kind': (('quantity', 'size', 'rule'), {'mass': None, 'name': None}),
     'line': (('instance', 'at'), {'orientation': 0, 'bin': 0}),
 }
 _WORDS = _CASE + tuple(_ENTRIES) + ('unplaced',)
@@ -177,11 +204,10 @@ class _Reader:
         self.container = False
 
     def take(self, number, line):
-        words = line.split('#', 1)[0].split()
-        if not words:
-            return
         try:
-            self.say(number, words[0], words[1:])
+            words = _words_of(line)
+            if words:
+                self.say(number, words[0], words[1:])
         except _Fault as fault:
             self.faults.append((number, str(fault)))
 
@@ -191,7 +217,7 @@ class _Reader:
         elif word == 'kind':
             self.places.kinds.append(number)
             one, f = _entry(word, words)
-            self.kinds.append(load_file.Kind(one, f['quantity'], f['size'], f['mass'], f['rule']))
+            self.kinds.append(load_file.Kind(one, f['quantity'], f['size'], f['mass'], f['rule'], f['name']))
         elif word == 'line':
             self.places.lines.append(number)
             one, f = _entry(word, words)
@@ -250,6 +276,29 @@ def _decoded(data):
         raise TextError([(line, 'the byte %02X here is not UTF-8 text; save the file as UTF-8' % data[error.start])]) from None
 
 
+# ---- names of kinds
+
+def names_of(sheet):
+    """The names of a sheet's kinds, by id."""
+    return {kind.id: kind.name for kind in reversed(sheet.kinds) if kind.name}
+
+
+def named(sheet, order):
+    """A sheet that came from a load file, with the names that the kinds have in the order's text."""
+    names = names_of(order)
+    return sheet._replace(kinds=[kind._replace(name=names.get(kind.id)) for kind in sheet.kinds])
+
+
+def kind_said(number, names):
+    """A kind's id, with its name if it has one: 7 (drive tray)."""
+    return '%d (%s)' % (number, names[number]) if number in names else '%d' % number
+
+
+def kinds_said(numbers, names):
+    """Some ids, with the names of those that have one."""
+    return (', ' if any(number in names for number in numbers) else ' ').join(kind_said(number, names) for number in numbers)
+
+
 # ---- values to text
 
 def number(value):
@@ -271,31 +320,36 @@ def _columns(rows):
 
 
 def _kind_row(kind):
-    row = ['kind %d' % kind.id, 'quantity %d' % kind.quantity, 'size ' + numbers(kind.size),
-           'rule ' + load_file.RULES[kind.rule]]
+    row = ['kind %d' % kind.id, 'name "%s"' % kind.name if kind.name else '', 'quantity %d' % kind.quantity,
+           'size ' + numbers(kind.size), 'rule ' + load_file.RULES[kind.rule]]
     return row + ['' if kind.mass is None else 'mass ' + number(kind.mass)]
 
 
 def _line_row(place, line, kinds):
     note = '# %d' % place
     if line.id in kinds:
-        note += ': ' + numbers(load_file.lengths_as_placed(kinds[line.id], line.orientation), ' x ')
+        name = kinds[line.id].name
+        note += ': %s%s' % (name + ', ' if name else '', numbers(load_file.lengths_as_placed(kinds[line.id], line.orientation), ' x '))
     return ['line %d' % line.id, 'instance %d' % line.instance, 'at ' + numbers(line.at),
             'orientation %d' % line.orientation, 'bin %d' % line.bin if line.bin else '', note]
 
 
 def write(sheet):
     """The text of a sheet. Reading it gives the same sheet, and writing that gives the same text."""
+    names = names_of(sheet)
     out = ['container %s  # width depth height' % numbers(sheet.size), 'margin ' + number(sheet.margin),
            'spacing ' + number(sheet.spacing), 'limit ' + ('none' if sheet.limit is None else number(sheet.limit))]
     if sheet.kinds:
         out += [''] + _columns([_kind_row(kind) for kind in sheet.kinds])
     if sheet.lines:
         kinds = load_file.kinds_by_id(sheet)
-        out += ['', "# After each line: its number as findings give it, and the box's lengths along x, y and z."]
+        name = "its kind's name, " if names else ''
+        out += ['', "# After each line: its number as findings give it, %sand the box's lengths along x, y and z." % name]
         out += _columns([_line_row(place, line, kinds) for place, line in enumerate(sheet.lines)])
     if sheet.unplaced:
         out.append('')
         for first in range(0, len(sheet.unplaced), 16):
-            out.append('unplaced ' + ' '.join(map(str, sheet.unplaced[first:first + 16])))
+            some = sheet.unplaced[first:first + 16]
+            said = [names[number] for number in some if number in names]
+            out.append('unplaced ' + ' '.join(map(str, some)) + ('  # ' + ', '.join(said) if said else ''))
     return '\n'.join(out) + '\n'

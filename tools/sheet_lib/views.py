@@ -5,8 +5,8 @@ from collections import namedtuple
 
 from . import load_file
 
-# One line of the sheet as a body: corners in the sheet's units. known: False where its kind is not listed, and it is a point.
-Body = namedtuple('Body', 'place line near far known')
+# One line of the sheet as a body: corners in the sheet's units. kind: None where it is not listed, and the body is a point.
+Body = namedtuple('Body', 'place line near far kind')
 # A rectangle on the page.
 Rect = namedtuple('Rect', 'x0 y0 x1 y1')
 # A body in a view. depth: those with a larger one are nearer. gone: it is wholly past the drawn range.
@@ -57,7 +57,7 @@ def bodies_of(sheet):
         kind = kinds.get(line.id)
         lengths = load_file.lengths_as_placed(kind, line.orientation) if kind else (0.0, 0.0, 0.0)
         far = tuple(a + b for a, b in zip(line.at, lengths))
-        out.append(Body(place, line, line.at, far, kind is not None))
+        out.append(Body(place, line, line.at, far, kind))
     return out
 
 
@@ -92,6 +92,18 @@ def meet(a, b):
     return a.x0 < b.x1 - 0.01 and b.x0 < a.x1 - 0.01 and a.y0 < b.y1 - 0.01 and b.y0 < a.y1 - 0.01
 
 
+def centre(rect):
+    return (rect.x0 + rect.x1) / 2, (rect.y0 + rect.y1) / 2
+
+
+def grown(rect, by):
+    return Rect(rect.x0 - by, rect.y0 - by, rect.x1 + by, rect.y1 + by)
+
+
+def is_within(rect, room):
+    return room.x0 <= rect.x0 and room.y0 <= rect.y0 and rect.x1 <= room.x1 and rect.y1 <= room.y1
+
+
 def _left_of(rect, cover):
     """What is left of a rectangle beside a cover that meets it: up to four rectangles."""
     low, high = max(rect.y0, cover.y0), min(rect.y1, cover.y1)
@@ -112,7 +124,7 @@ def is_hidden(rect, covers):
 
 def is_drawn(face):
     """Whether a face is a box on the page; what is of an unlisted kind or far outside is not."""
-    return face.body.known and not face.gone
+    return face.body.kind is not None and not face.gone
 
 
 def hidden_in(faces):

@@ -1,97 +1,85 @@
-//! A safe wrapper over the proved planner for boxes in cases.
+//! A safe wrapper over the proved planner for boxes in cases: plan an order with one of two placers, check a sheet, ask for its fill.
 //!
-//! A sheet or an order is a load file of form 1, as bytes. Every call takes every input; a bad one is
-//! refused by number, and nothing is changed then.
+//! ```
+//! use waikurpeho::{Container, Finding, Kind, Order, Placer, Rule};
+//!
+//! # fn main() -> Result<(), waikurpeho::Refusal> {
+//! let case = Container::new(400.0, 300.0, 200.0).with_margin(10.0).with_spacing(5.0);
+//! let order = Order::new(case).with(Kind::new(7, 3, [180.0, 120.0, 90.0]).with_rule(Rule::Upright).with_mass(4.0));
+//!
+//! let mut sheet = order.plan(Placer::Points)?.sheet;
+//! assert_eq!(sheet.lines.len(), 3);
+//! assert_eq!(sheet.check()?, []);
+//! assert_eq!(sheet.fill()?, 243);
+//!
+//! sheet.lines[1].at[0] -= 3.0;
+//! assert_eq!(sheet.check()?, [Finding::TooClose { first: 0, second: 1, distance: 2.0, spacing: 5.0 }]);
+//! # Ok(())
+//! # }
+//! ```
+//!
+//! An order or a sheet goes to the library as a load file, which [`mod@file`] describes byte by byte; [`calls`] has the same calls over bytes. Lengths are
+//! in one unit of your choice, masses too. The calls keep nothing between them, so they may run side by side; one takes at most 64 KiB of stack.
+//!
+//! `rt staticlib waikurpeho` proves the library and writes `target/staticlib/libwaikurpeho.a`, and `WAIKURPEHO_LIB` names its folder where it stands
+//! elsewhere. It is for Linux on x86-64. For another processor or system there is none to be had: the toolchain compiles for Linux on x86-64 alone, on
+//! an Arm machine too; there, build for `x86_64-unknown-linux-gnu` and run in an emulator, or run `./waikurpeho`, which does so itself.
+#![warn(missing_docs)]
 
-/// The longest load file, in bytes (docs/RULES.md, Numbers that bound it).
-pub const LONGEST: usize = 60_000;
+pub mod bounds;
+pub mod calls;
+pub mod file;
+mod finding;
+mod load;
+mod refusal;
 
-/// Why a call was refused: the numbers of docs/RULES.md, Refusals.
-#[derive(Clone, Copy, Debug, PartialEq, Eq)]
-pub struct Refusal {
-    /// 1 shape, 2 count, 3 range, 4 record, 5 repeated id, 6 room, 8 lengths not whole
-    pub number: u32,
-    /// with 6, the slots or bytes needed; else 0
-    pub needed: usize,
-}
-
-/// A plan: the planned sheet, the boxes considered and the utilization.
-#[derive(Clone, Debug, PartialEq)]
-pub struct Plan {
-    pub sheet: Vec<u8>,
-    pub considered: u64,
-    pub utilization: f64,
-}
+pub use finding::{Finding, WORDS};
+pub use load::{Container, Kind, Line, Order, Rule, Sheet};
+pub use refusal::Refusal;
 
 /// Which of the two placers plans.
-#[derive(Clone, Copy, Debug, PartialEq, Eq)]
+#[derive(Clone, Copy, Debug, PartialEq, Eq, Hash)]
 pub enum Placer {
+    /// extreme points: the largest boxes first, each at the lowest point where it fits; a box may pass by a billionth
     Points,
+    /// layers: in the order given, row by row and layer by layer, without slack
     Layers,
 }
 
-/// A finding: its number, then four fields, unused ones 0.
-pub type Finding = [u64; 5];
+/// A plan of an order.
+#[derive(Clone, Debug, PartialEq)]
+pub struct Plan {
+    /// the order with the boxes that stand, and with the kinds of which one is left out
+    pub sheet: Sheet,
+    /// how many boxes were considered
+    pub considered: u64,
+    /// the volume of the boxes placed by the container's
+    pub utilization: f64,
+}
 
-mod linked {
-    extern "C" {
-        pub fn wk_check(sheet: *const u8, sheet_len: usize, findings: *mut u64, findings_len: usize) -> u64;
-        pub fn wk_plan_points(order: *const u8, order_len: usize, consider: u64, sheet: *mut u8, sheet_len: usize, figures: *mut [u64; 2]) -> u64;
-        pub fn wk_plan_layers(order: *const u8, order_len: usize, consider: u64, sheet: *mut u8, sheet_len: usize, figures: *mut [u64; 2]) -> u64;
-        pub fn wk_fill(sheet: *const u8, sheet_len: usize, fill: *mut u64) -> u64;
+impl Order {
+    /// Plans all its boxes.
+    pub fn plan(&self, placer: Placer) -> Result<Plan, Refusal> {
+        self.plan_first(placer, u64::MAX)
+    }
+
+    /// Plans the first so many of its boxes, in the placer's own order.
+    pub fn plan_first(&self, placer: Placer, consider: u64) -> Result<Plan, Refusal> {
+        let planned = calls::plan(placer, &self.to_bytes(), consider)?;
+        // it is proved that a planned sheet is accepted, and every accepted file can be read
+        let sheet = Sheet::from_bytes(&planned.file).expect("a planned sheet is a load file");
+        Ok(Plan { sheet, considered: planned.considered, utilization: planned.utilization })
     }
 }
 
-fn told(answer: u64) -> Result<usize, Refusal> {
-    let (number, count) = ((answer >> 32) as u32, answer as u32 as usize);
-    if number == 0 {
-        Ok(count)
-    } else {
-        Err(Refusal { number, needed: count })
+impl Sheet {
+    /// What there is to find on it; nothing where it is as it should be.
+    pub fn check(&self) -> Result<Vec<Finding>, Refusal> {
+        calls::check(&self.to_bytes())
     }
-}
 
-/// The findings written into lent words, five a slot: how many there are.
-pub fn check_into(sheet: &[u8], findings: &mut [u64]) -> Result<usize, Refusal> {
-    // Safe: both slices are whole, do not overlap, and are lent for the call only.
-    told(unsafe { linked::wk_check(sheet.as_ptr(), sheet.len(), findings.as_mut_ptr(), findings.len()) })
-}
-
-/// The findings on a sheet. It asks how much room they need, and then for them.
-pub fn check(sheet: &[u8]) -> Result<Vec<Finding>, Refusal> {
-    let mut words = Vec::new();
-    let count = match check_into(sheet, &mut words) {
-        Err(Refusal { number: 6, needed }) => {
-            words = vec![0; 5 * needed];
-            check_into(sheet, &mut words)?
-        }
-        other => other?,
-    };
-    Ok(words.chunks_exact(5).take(count).map(|w| [w[0], w[1], w[2], w[3], w[4]]).collect())
-}
-
-/// The planned sheet written into lent bytes: its length. The figures are the boxes considered and the utilization's bits.
-pub fn plan_into(placer: Placer, order: &[u8], consider: u64, sheet: &mut [u8], figures: &mut [u64; 2]) -> Result<usize, Refusal> {
-    let call = match placer {
-        Placer::Points => linked::wk_plan_points,
-        Placer::Layers => linked::wk_plan_layers,
-    };
-    // Safe: as above.
-    told(unsafe { call(order.as_ptr(), order.len(), consider, sheet.as_mut_ptr(), sheet.len(), figures) })
-}
-
-/// The plan of an order over at most `consider` of its boxes.
-pub fn plan(placer: Placer, order: &[u8], consider: u64) -> Result<Plan, Refusal> {
-    let (mut sheet, mut figures) = (vec![0; LONGEST], [0; 2]);
-    let length = plan_into(placer, order, consider, &mut sheet, &mut figures)?;
-    sheet.truncate(length);
-    Ok(Plan { sheet, considered: figures[0], utilization: f64::from_bits(figures[1]) })
-}
-
-/// The fill per thousand of a sheet.
-pub fn fill(sheet: &[u8]) -> Result<u64, Refusal> {
-    let mut fill = 0;
-    // Safe: as above.
-    told(unsafe { linked::wk_fill(sheet.as_ptr(), sheet.len(), &mut fill) })?;
-    Ok(fill)
+    /// Its fill per thousand: the boxes' volume times 1,000 by the container's, rounded down.
+    pub fn fill(&self) -> Result<u64, Refusal> {
+        calls::fill(&self.to_bytes())
+    }
 }
