@@ -5,14 +5,14 @@ from . import text
 
 # The kinds that a row has room for.
 MOST_IN_A_ROW = 5
-# A kind of an order, how many boxes it asks for and how many of them a plan places.
-Share = namedtuple('Share', 'id quantity placed')
+# A kind of an order and its name or None, how many boxes it asks for and how many of them a plan places.
+Share = namedtuple('Share', 'id name quantity placed')
 
 
 def shares(sheet):
     """Each kind's share of a planned sheet, in the order of the kinds."""
     placed = Counter(line.id for line in sheet.lines)
-    return [Share(kind.id, kind.quantity, placed[kind.id]) for kind in sheet.kinds]
+    return [Share(kind.id, kind.name, kind.quantity, placed[kind.id]) for kind in sheet.kinds]
 
 
 def totals(sheet):
@@ -53,10 +53,10 @@ def _nothing(sheet):
 
 def side_by_side(plans):
     """The kinds of an order with what each placer leaves out of them, a line each. plans: planned sheets by their placer."""
-    engines = list(plans)
+    engines, names = list(plans), text.names_of(next(iter(plans.values())))
     rows = [['kind', 'asked'] + ['left out by ' + engine for engine in engines]]
     for each in zip(*(shares(plans[engine]) for engine in engines)):
-        rows.append([str(each[0].id), str(each[0].quantity)] + [str(one.quantity - one.placed) for one in each])
+        rows.append([text.kind_said(each[0].id, names), str(each[0].quantity)] + [str(one.quantity - one.placed) for one in each])
     sums = [totals(plans[engine]) for engine in engines]
     rows.append(['all', str(sums[0][0])] + [str(left) for _, left in sums])
     out = [''.join(word.rjust(width + 2) for word, width in zip(row, [max(map(len, column)) for column in zip(*rows)])) for row in rows]

@@ -42,7 +42,7 @@ def _lines(sheet):
 
 def sheet(one):
     """A sheet as it stands."""
-    kinds = [{'kind': kind.id, 'quantity': kind.quantity, **_float('size', kind.size), **_float('mass', kind.mass),
+    kinds = [{'kind': kind.id, 'name': kind.name, 'quantity': kind.quantity, **_float('size', kind.size), **_float('mass', kind.mass),
               'rule': load_file.RULES[kind.rule]} for kind in one.kinds]
     return {**_float('container', one.size), **_float('margin', one.margin), **_float('spacing', one.spacing), **_float('limit', one.limit),
             'kinds': kinds, 'lines': _lines(one), 'unplaced': list(one.unplaced)}
@@ -52,7 +52,8 @@ def plan(engine, consider, one, figures):
     """A planned sheet. figures: boxes considered, and the bits of the utilization as the planner lists them."""
     asked, left = left_out.totals(one)
     considered, share = figures
-    kinds = [{'kind': each.id, 'quantity': each.quantity, 'placed': each.placed, 'left_out': each.quantity - each.placed} for each in left_out.shares(one)]
+    kinds = [{'kind': each.id, 'name': each.name, 'quantity': each.quantity, 'placed': each.placed, 'left_out': each.quantity - each.placed}
+             for each in left_out.shares(one)]
     return {'engine': engine, 'program': PLAN, 'consider': consider and int(consider), 'considered': considered, 'boxes': asked, 'placed': asked - left,
             'left_out': left, **_float('utilization', findings.float_of(share)), 'utilization_percent': _percent(findings.float_of(share)),
             'kinds': kinds, 'lines': _lines(one), 'unplaced': list(one.unplaced)}
@@ -107,7 +108,7 @@ TABLES = {
     'summary': ('file', 'command', 'status', 'engine', 'kinds', 'boxes', 'considered', 'placed', 'left_out', 'lines', 'findings', 'refused', 'fill',
                 'utilization', 'utilization_bits', 'utilization_percent', 'utilization_by', 'written', 'problem'),
     'boxes': ('file', 'status', 'engine', 'line', 'kind', 'instance', 'orientation', 'bin') + _XYZ + ('problem',),
-    'kinds': ('file', 'status', 'engine', 'kind', 'quantity', 'placed', 'left_out', 'problem'),
+    'kinds': ('file', 'status', 'engine', 'kind', 'name', 'quantity', 'placed', 'left_out', 'problem'),
     'findings': ('file', 'status', 'finding') + tuple(name for field in _FIELDS for name in ((field, field + '_bits') if field in _BITS else (field,)))
                 + ('text_lines', 'sentence', 'problem'),
 }
