@@ -334,7 +334,7 @@ const FAULTS: [Fault; 12] = [
     (5, |s| s.kinds[1].id = 7),
     (4, |s| s.kinds[2].massed = 7),
     (3, |s| s.kinds[2].size[1] = f64::INFINITY),
-    (2, |s| s.kinds[1].quantity = 300),
+    (2, |s| s.kinds[1].quantity = MOST_BOXES as u32 + 44),
     (3, |s| s.lines[1].at[0] = 2e9),
 ];
 

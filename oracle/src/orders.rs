@@ -352,7 +352,7 @@ fn ties(r: &mut Random, scale: Scale) -> Sheet {
     });
     // One box of the total goes to the first layer.
     s.kinds.truncate(63);
-    if s.total() > 255 {
+    if s.total() >= refusals::MOST_BOXES {
         s.kinds[0].quantity -= 1;
     }
     s.kinds.retain(|k| k.quantity > 0);

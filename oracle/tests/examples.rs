@@ -93,7 +93,8 @@ fn bounds_of_the_examples() {
         s.lines = vec![s.lines[0]; lines as usize];
         refusals::of_file(&encode(&s))
     };
-    assert_eq!((at_most(256), at_most(257)), (0, 2));
+    let most = refusals::MOST_LINES as u32;
+    assert_eq!((at_most(most), at_most(most + 1)), (0, 2));
     let of_length = |x: f64| {
         let mut s = worked();
         s.kinds[0].size[1] = x;
@@ -108,7 +109,7 @@ fn a_point_strictly_inside_a_box_is_dropped() {
     let stored = |i: usize| rust_side::point_steps(&all[i].0, &all[i].1).points.len();
     assert_eq!((stored(0), stored(1)), (7, 8));
     // The bound is reached: 1 plus twice the boxes.
-    assert_eq!(stored(5), 513);
+    assert_eq!(stored(5), 1 + 2 * refusals::MOST_BOXES as usize);
 }
 
 #[test]

@@ -20,7 +20,8 @@ use Rattle.check_words.specs.Writes.{only-nothing}
 use Rattle.check_list.specs.declared.Rule.{Rule}
 use Rattle.check_list.specs.Finding.{verdictWords}
 use Rattle.check_list.specs.View.{View, lineFound, verdictFound, pairFound, pairsFound, linesFound}
-use Rattle.check_list.specs.Held.{extentAt, viewIn, boxesIn}
+use Rattle.check_words.specs.Corners.{extentAt}
+use Rattle.check_list.specs.Held.{viewIn, boxesIn}
 use Rattle.check_list.specs.Alike.{pairs-same}
 
 module _ (r : Rule) (which : List ℕ) (boxes : List Float) (i j : ℕ) (o : i < j) where

@@ -1,37 +1,40 @@
 -- What bytes and columns hold: the view that they give of the lines, the words that they give to the kinds; and what a run over them does.
 use Prim.Native.Nat.{ℕ, _+_, _*_, _/_, _-_, _<_, _≤_}
-use mathlib.Core.Path.{_≡_}
-use mathlib.Core.Bool.{Bool, false}
+use mathlib.Core.Path.{_≡_, refl}
+use mathlib.Core.Bool.{Bool, true, false, cond, _||_}
 use mathlib.Core.List.{List, [], _∷_, _++_}
+use native.Mathlib.Omega.{arith}
+use borrow.Author.Tests.{ltb-false, le-ltb}
 use lib.Dec.{ltb}
 use lib.ListN.{length, getD}
 use lib.Ieee.{Float, nan}
 use Rattle.floats.specs.Ops.{none}
 use Rattle.lists.specs.Below.{allBelow}
 use Rattle.domain.specs.Bounds.{mostLines}
+use Rattle.lists.specs.Bools.{or-left, or-right}
 use Rattle.measures.specs.declared.Container.{Container}
 use Rattle.sheet.specs.declared.Counts.{Counts}
 use Rattle.file_read.specs.Records.{kindIn, lineIn}
-use Rattle.check_pair.specs.declared.Extent.{Extent}
 use Rattle.check_pair.specs.Tolerance.{toleranceOf}
+use Rattle.check_words.specs.Corners.{extentAt}
 use Rattle.check_words.specs.Wrote.{Wrote}
 use Rattle.check_list.specs.declared.Rule.{Rule}
 use Rattle.check_list.specs.Finding.{massWords, lostWords}
-use Rattle.check_list.specs.View.{View, fair}
+use Rattle.check_list.specs.View.{View, linesFound, noCounts, fair, fair-few}
 
 -- ---- lines
 
+-- columns that lack a cell for one of n lines: the places of their kinds, which are repeated, the corners of their boxes
+abbrev pub narrow : ℕ → List ℕ → List Bool → List Float → Bool
+narrow n which again boxes = ltb (length which) n || (ltb (length again) n || ltb (length boxes) (6 * n))
+
+-- counts over their bounds count for nothing, and neither do those of more lines than the columns have
+abbrev pub held : Counts → List ℕ → List Bool → List Float → Counts
+held m which again boxes = cond (narrow (fair m .lines) which again boxes) noCounts (fair m)
+
 -- what lines are judged by where there are so many, in this container
 abbrev pub ruleOf : Counts → Container → Rule
-ruleOf m c = record { kinds = fair m .kinds; lines = fair m .lines; case = c; slack = toleranceOf (c .size) }
-
--- the box whose corners stand in row i of six columns: near x, y, z, far x, y, z
-abbrev pub extentAt : List Float → ℕ → Extent
-extentAt boxes i =
-    record {
-      min = getD boxes i nan ∷ getD boxes (mostLines + i) nan ∷ getD boxes (2 * mostLines + i) nan ∷ [];
-      max = getD boxes (3 * mostLines + i) nan ∷ getD boxes (4 * mostLines + i) nan ∷ getD boxes (5 * mostLines + i) nan ∷ [];
-    }
+ruleOf m c = record { kinds = m .kinds; lines = m .lines; case = c; slack = toleranceOf (c .size) }
 
 -- the view of lines whose records stand in bytes from a place on: a line is known where the place of its kind is one. Of mass, kinds
 -- and unplaced ids it has nothing.
@@ -75,6 +78,11 @@ pub record Ran (o : List ℕ) (at most : ℕ) (ws : List ℕ) (r : ℕ) (o′ : 
   pub words : Wrote o at ws r o′
   pub few : r ≤ at + 5 * most
 
+-- the lines and their pairs by the columns: so many lines, in this container
+abbrev pub LinesRan : List ℕ → ℕ → Counts → Container → List ℕ → List Bool → List Float → List ℕ → ℕ → List ℕ → Type 0
+LinesRan f start m c which again boxes o r o′ =
+    Ran o 0 (6 * m .lines + m .lines * m .lines / 2) (linesFound (viewIn f start again (ruleOf m c) which boxes)) r o′
+
 -- the same for a part of a loop's turns: what stood before it stands up to `from`, and afterwards up to `to`
 pub record Went (o : List ℕ) (at : ℕ) (g : ℕ → List ℕ) (from to r : ℕ) (o′ : List ℕ) : Type 0 where
   pub as-long : length o′ ≡ length o
@@ -89,3 +97,30 @@ mostLineWords = 5 * (6 * mostLines + mostLines * mostLines / 2)
 pub record Followed (o : List ℕ) (at most : ℕ) (ws : List ℕ) (r : ℕ) (o′ : List ℕ) : Type 0 where
   pub within : at ≤ mostLineWords → Ran o at most ws r o′
   pub past : mostLineWords < at → Wrote o at [] r o′
+
+-- ---- the columns have a cell for each line that counts
+
+pub record Wide (n : ℕ) (which : List ℕ) (again : List Bool) (boxes : List Float) : Type 0 where
+  pub few : n ≤ mostLines
+  pub which-long : n ≤ length which
+  pub again-long : n ≤ length again
+  pub boxes-long : 6 * n ≤ length boxes
+
+pub held-wide : (m : Counts) (which : List ℕ) (again : List Bool) (boxes : List Float) → Wide (held m which again boxes .lines) which again boxes
+held-wide m which again boxes = go (narrow (fair m .lines) which again boxes) refl
+  where
+    go : (b : Bool) → narrow (fair m .lines) which again boxes ≡ b → Wide (cond b noCounts (fair m) .lines) which again boxes
+    go true h = record { few = omega arith; which-long = omega arith; again-long = omega arith; boxes-long = omega arith }
+    go false h =
+        let r = or-right (ltb (length which) (fair m .lines)) _ h in
+        record {
+          few = fair-few m .lines;
+          which-long = ltb-false _ _ (or-left (ltb (length which) (fair m .lines)) _ h);
+          again-long = ltb-false _ _ (or-left (ltb (length again) (fair m .lines)) _ r);
+          boxes-long = ltb-false _ _ (or-right (ltb (length again) (fair m .lines)) _ r);
+        }
+
+-- where they have one for each there is, all count
+pub held-all : (m : Counts) (which : List ℕ) (again : List Bool) (boxes : List Float) → Wide (fair m .lines) which again boxes
+    → held m which again boxes ≡ fair m
+held-all m which again boxes w = rw (le-ltb _ _ (w .which-long), le-ltb _ _ (w .again-long), le-ltb _ _ (w .boxes-long))

@@ -2,4 +2,5 @@
 pub mod Finding
 pub mod View
 pub mod Held
+pub mod Blocks
 pub mod Alike

@@ -1,18 +1,17 @@
 // The findings on a load sheet, over its bytes and columns that were filled from them once: those of the lines and their pairs, then
 // those on the mass and the kinds. RULES: Findings: words
 ghost use mathlib.Core.Path.{_≡_};
-ghost use Prim.Native.Nat.{_+_, _*_, _/_};
-ghost use Rattle.check_list.specs.View.{linesFound, fair};
-ghost use Rattle.check_list.specs.Held.{ruleOf, viewIn, kindsIn, Ran, Followed};
+ghost use Prim.Native.Nat.{_+_};
+ghost use Rattle.check_list.specs.View.{fair};
+ghost use Rattle.check_list.specs.Held.{held, ruleOf, kindsIn, LinesRan, Followed};
+use check_words::CORNERS;
 use measures::Container;
 use sheet::Counts;
 
+mod block; // block.rt: lines by blocks
 mod kind;
 mod line;
 mod pair;
-
-// The corners of the lines' boxes: near x of all lines, near y, near z, then the same of the far corners.
-pub const CORNERS: usize = 6 * domain::MOST_LINES;
 
 // No finding on a line or a pair begins past so many cells: five words for each that there can be.
 const LINE_WORDS: usize = 5
@@ -40,10 +39,25 @@ fn fair(many: Counts) -> Counts
     many
 }
 
-fn rule_of(counts: Counts, c: Container) -> Rule
-    ensures { λ r. ⌜ r ≡ ruleOf counts c ⌝ }
+// The counts that there are columns for.
+fn held(counts: Counts, which: &[usize], again: &[bool], boxes: &[f64]) -> Counts
+    ensures { λ r. ⌜ r ≡ held counts (now (which .entry)) (now (again .entry)) (now (boxes .entry)) ⌝ }
 {
     let many = fair(counts);
+    let n = many.lines;
+    if (which.len() < n) | ((again.len() < n) | (boxes.len() < CORNERS * n)) {
+        return Counts {
+            kinds: 0,
+            lines: 0,
+            unplaced: 0,
+        };
+    }
+    many
+}
+
+fn rule_of(many: Counts, c: Container) -> Rule
+    ensures { λ r. ⌜ r ≡ ruleOf many c ⌝ }
+{
     let size = c.size;
     Rule {
         kinds: many.kinds,
@@ -55,22 +69,22 @@ fn rule_of(counts: Counts, c: Container) -> Rule
 
 // Lists the findings of the lines and then those of their pairs, from the first cell on as far as there are cells, and says how many
 // words they are. Lines start at `start` of the bytes; `which` are the places of the kinds that they name, `again` tells the repeated
-// ones, `boxes` are the corners of their boxes. Counts over their bounds count for nothing.
+// ones, `boxes` are the corners of their boxes, a row each. Counts over their bounds, or of more lines than the columns have, count for
+// nothing.
 pub fn line_findings(
     out: &mut [u64],
     f: &[u8],
     start: usize,
     counts: Counts,
     c: Container,
-    which: &[usize; domain::MOST_LINES],
-    again: &[bool; domain::MOST_LINES],
-    boxes: &[f64; CORNERS],
+    which: &[usize],
+    again: &[bool],
+    boxes: &[f64],
 ) -> usize
-    ensures { λ r. ⌜ Ran (now (out .entry)) 0 (6 * fair counts .lines + fair counts .lines * fair counts .lines / 2)
-        (linesFound (viewIn (now (f .entry)) start (now (again .entry)) (ruleOf counts c) (now (which .entry)) (now (boxes .entry))))
-        r (now (out .exit)) ⌝ }
+    ensures { λ r. ⌜ LinesRan (now (f .entry)) start (held counts (now (which .entry)) (now (again .entry)) (now (boxes .entry))) c
+        (now (which .entry)) (now (again .entry)) (now (boxes .entry)) (now (out .entry)) r (now (out .exit)) ⌝ }
 {
-    let rule = rule_of(counts, c);
+    let rule = rule_of(held(counts, which, again, boxes), c);
     let p = line::put_lines(out, f, start, which, again, boxes, rule);
     pair::put_pairs(out, p, which, boxes, rule)
 }

@@ -2,13 +2,12 @@
 ghost use mathlib.Core.Path.{_≡_};
 ghost use mathlib.Core.List.{_++_};
 ghost use Prim.Native.Nat.{_+_, _*_, _≤_, _<_};
-ghost use Rattle.domain.specs.Bounds.{mostLines};
 ghost use Rattle.lists.specs.Below.{allBelow};
 ghost use Rattle.check_pair.specs.Tolerance.{toleranceOf};
 ghost use Rattle.check_words.specs.Wrote.{Wrote, mostWords};
 ghost use Rattle.check_list.specs.Finding.{nameWords, repeatWords, placeWords, insideOn, boxInside};
 ghost use Rattle.check_list.specs.View.{lineFound};
-ghost use Rattle.check_list.specs.Held.{viewIn, Ran};
+ghost use Rattle.check_list.specs.Held.{viewIn, Ran, Wide};
 use crate::Rule;
 use check_pair::Extent;
 use measures::Container;
@@ -84,12 +83,12 @@ pub(crate) fn put_lines(
     out: &mut [u64],
     f: &[u8],
     start: usize,
-    which: &[usize; domain::MOST_LINES],
-    again: &[bool; domain::MOST_LINES],
-    boxes: &[f64; crate::CORNERS],
+    which: &[usize],
+    again: &[bool],
+    boxes: &[f64],
     rule: Rule,
 ) -> usize
-    requires { ⌜ (rule .lines ≤ mostLines) × (rule .slack ≡ toleranceOf (rule .case .size)) ⌝ }
+    requires { ⌜ Wide (rule .lines) (now which) (now again) (now boxes) × (rule .slack ≡ toleranceOf (rule .case .size)) ⌝ }
     ensures { λ r. ⌜ Ran (now (out .entry)) 0 (6 * rule .lines)
         (allBelow (lineFound (viewIn (now (f .entry)) start (now (again .entry)) rule (now (which .entry)) (now (boxes .entry)))) (rule .lines))
         r (now (out .exit)) ⌝ }

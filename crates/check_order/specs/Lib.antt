@@ -1,4 +1,5 @@
 -- That the order of a sheet's lines does not matter to its findings: the statement in Demand, the theorems in OrderOfLines, and what leads to them.
+-- Nor do cells past those that count: Alike.
 pub mod Demand
 pub mod ByLine
 pub mod Bools
@@ -15,4 +16,5 @@ pub mod Repeats
 pub mod Unplaced
 pub mod Mass
 pub mod OrderOfLines
+pub mod Alike
 pub mod Examples

@@ -135,6 +135,47 @@ module _ (s : Sheet) (k : ℕ) where
   unfolding packed
   packed-distinct = packed-below (s .many .lines)
 
+-- ---- two sheets with the same kinds and ids, of which the same kinds are short
+
+module _ (s : Sheet) (ks : List Kind) (ls : List Line) (us : List ℕ)
+    (same-kinds : (k : ℕ) → k < s .many .kinds → kindAt s k ≡ getD ks k noKind)
+    (same-unplaced : (i : ℕ) → i < s .many .unplaced → unplacedAt s i ≡ getD us i 0)
+    (same-short : (k : ℕ) → k < s .many .kinds → short s k ≡ short (other s ks ls us) k) where
+  listed-same : (id n : ℕ) → ((i : ℕ) → i < n → i < s .many .unplaced) → anyBelow (isAt (s .unplaced) id) n ≡ anyBelow (isAt us id) n
+  unfolding isAt
+  listed-same id n h = any-same (isAt (s .unplaced) id) (isAt us id) n (λ i l. ap (λ (v : ℕ). eqb v id) (same-unplaced i (h i l)))
+
+  -- a kind that is missing in the one is in the other
+  pub missing-same : (k : ℕ) → k < s .many .kinds → missing s k ≡ missing (other s ks ls us) k
+  unfolding lostFound lostWords
+  missing-same k h =
+      let t = other s ks ls us in
+      let words : Bool → Bool → ℕ → List ℕ = λ a b id. onlyIf (a && not b) (10 ∷ id ∷ 0 ∷ 0 ∷ 0 ∷ []) in
+      let listed : List ℕ → ℕ → Bool = λ ids id. anyBelow (isAt ids id) (s .many .unplaced) in
+      ap (λ (v : Bool). words v (listed (s .unplaced) (kindAt s k .id)) (kindAt s k .id)) (same-short k h)
+      ∙ ap (λ (v : Bool). words (short t k) v (kindAt s k .id)) (listed-same (kindAt s k .id) (s .many .unplaced) (λ i l. l))
+      ∙ ap (λ (v : Kind). words (short t k) (listed us (v .id)) (v .id)) (same-kinds k h)
+
+  -- and an id that is wrongly listed
+  pub wrong-same : (i : ℕ) → i < s .many .unplaced → wronglyListed s i ≡ wronglyListed (other s ks ls us) i
+  unfolding wrongFound wrongWords
+  wrong-same i h =
+      let t = other s ks ls us in
+      let id = unplacedAt s i in
+      ap (λ (v : Bool). onlyIf v (11 ∷ id ∷ 0 ∷ 0 ∷ 0 ∷ []))
+      (wrong (isKnown s id) (isKnown t id) (short s (kindOf s id)) (short t (kindOf t id)) (anyBelow (isAt (s .unplaced) id) i)
+      (ap (λ (v : ℕ). ltb v (s .many .kinds)) (kind-of-same s ks ls us same-kinds id)) (short-known id))
+      ∙ ap (λ (v : Bool). onlyIf (not (isKnown t id) || (not (short t (kindOf t id)) || v)) (11 ∷ id ∷ 0 ∷ 0 ∷ 0 ∷ [])) (listed-same id i (λ j l. omega arith))
+      ∙ ap (λ (v : ℕ). onlyIf (not (isKnown t v) || (not (short t (kindOf t v)) || anyBelow (isAt us v) i)) (11 ∷ v ∷ 0 ∷ 0 ∷ 0 ∷ [])) (same-unplaced i h)
+    where
+      short-known : (id : ℕ) → isKnown s id ≡ true → short s (kindOf s id) ≡ short (other s ks ls us) (kindOf (other s ks ls us) id)
+      short-known id e = same-short (kindOf s id) (ltb-true (kindOf s id) (s .many .kinds) e) ∙ ap (short (other s ks ls us))
+          (kind-of-same s ks ls us same-kinds id)
+
+      wrong : (b c r u v : Bool) → b ≡ c → (b ≡ true → r ≡ u) → (not b || (not r || v)) ≡ (not c || (not u || v))
+      wrong true c r u v e f = ap (λ (w : Bool). not w || v) (f refl) ∙ ap (λ (w : Bool). not w || (not u || v)) e
+      wrong false c r u v e f = ap (λ (w : Bool). not w || (not u || v)) e
+
 -- ---- the same with the lines in another order
 
 module _ (s : Sheet) (ks : List Kind) (ls : List Line) (us : List ℕ)
@@ -172,44 +213,13 @@ module _ (s : Sheet) (ks : List Kind) (ls : List Line) (us : List ℕ)
   short-same k h = ap (λ (v : ℕ). ltb v (kindAt s k .quantity)) (packed-same k h) ∙ ap (λ (v : Kind). ltb (packed (other s ks ls us) k) (v .quantity))
       (same-kinds k h)
 
-  listed-same : (id n : ℕ) → ((i : ℕ) → i < n → i < s .many .unplaced) → anyBelow (isAt (s .unplaced) id) n ≡ anyBelow (isAt us id) n
-  unfolding isAt
-  listed-same id n h = any-same (isAt (s .unplaced) id) (isAt us id) n (λ i l. ap (λ (v : ℕ). eqb v id) (same-unplaced i (h i l)))
-
-  missing-same : (k : ℕ) → k < s .many .kinds → missing s k ≡ missing (other s ks ls us) k
-  unfolding lostFound lostWords
-  missing-same k h =
-      let t = other s ks ls us in
-      let words : Bool → Bool → ℕ → List ℕ = λ a b id. onlyIf (a && not b) (10 ∷ id ∷ 0 ∷ 0 ∷ 0 ∷ []) in
-      let listed : List ℕ → ℕ → Bool = λ ids id. anyBelow (isAt ids id) (s .many .unplaced) in
-      ap (λ (v : Bool). words v (listed (s .unplaced) (kindAt s k .id)) (kindAt s k .id)) (short-same k h)
-      ∙ ap (λ (v : Bool). words (short t k) v (kindAt s k .id)) (listed-same (kindAt s k .id) (s .many .unplaced) (λ i l. l))
-      ∙ ap (λ (v : Kind). words (short t k) (listed us (v .id)) (v .id)) (same-kinds k h)
-
-  wrong-same : (i : ℕ) → i < s .many .unplaced → wronglyListed s i ≡ wronglyListed (other s ks ls us) i
-  unfolding wrongFound wrongWords
-  wrong-same i h =
-      let t = other s ks ls us in
-      let id = unplacedAt s i in
-      ap (λ (v : Bool). onlyIf v (11 ∷ id ∷ 0 ∷ 0 ∷ 0 ∷ []))
-      (wrong (isKnown s id) (isKnown t id) (short s (kindOf s id)) (short t (kindOf t id)) (anyBelow (isAt (s .unplaced) id) i)
-      (ap (λ (v : ℕ). ltb v (s .many .kinds)) (kind-of-same s ks ls us same-kinds id)) (short-known id))
-      ∙ ap (λ (v : Bool). onlyIf (not (isKnown t id) || (not (short t (kindOf t id)) || v)) (11 ∷ id ∷ 0 ∷ 0 ∷ 0 ∷ [])) (listed-same id i (λ j l. omega arith))
-      ∙ ap (λ (v : ℕ). onlyIf (not (isKnown t v) || (not (short t (kindOf t v)) || anyBelow (isAt us v) i)) (11 ∷ v ∷ 0 ∷ 0 ∷ 0 ∷ [])) (same-unplaced i h)
-    where
-      short-known : (id : ℕ) → isKnown s id ≡ true → short s (kindOf s id) ≡ short (other s ks ls us) (kindOf (other s ks ls us) id)
-      short-known id e = short-same (kindOf s id) (ltb-true (kindOf s id) (s .many .kinds) e) ∙ ap (short (other s ks ls us))
-          (kind-of-same s ks ls us same-kinds id)
-
-      wrong : (b c r u v : Bool) → b ≡ c → (b ≡ true → r ≡ u) → (not b || (not r || v)) ≡ (not c || (not u || v))
-      wrong true c r u v e f = ap (λ (w : Bool). not w || v) (f refl) ∙ ap (λ (w : Bool). not w || (not u || v)) e
-      wrong false c r u v e f = ap (λ (w : Bool). not w || (not u || v)) e
-
   -- "the findings on unplaced kinds come out identical"
   pub unplaced-same : pick onUnplaced (findings s) ≡ pick onUnplaced (findings (other s ks ls us))
   unplaced-same =
       let t = other s ks ls us in
       unplaced-picked s
-      ∙ ap (λ (v : List ℕ). v ++ allBelow (wronglyListed s) (s .many .unplaced)) (all-same (missing s) (missing t) (s .many .kinds) missing-same)
-      ∙ ap (λ (v : List ℕ). allBelow (missing t) (s .many .kinds) ++ v) (all-same (wronglyListed s) (wronglyListed t) (s .many .unplaced) wrong-same)
+      ∙ ap (λ (v : List ℕ). v ++ allBelow (wronglyListed s) (s .many .unplaced)) (all-same (missing s) (missing t) (s .many .kinds)
+      (missing-same s ks ls us same-kinds same-unplaced short-same))
+      ∙ ap (λ (v : List ℕ). allBelow (missing t) (s .many .kinds) ++ v) (all-same (wronglyListed s) (wronglyListed t) (s .many .unplaced)
+      (wrong-same s ks ls us same-kinds same-unplaced short-same))
       ∙ sym (unplaced-picked t)

@@ -4,7 +4,6 @@ pub mod Packed
 pub mod Places
 pub mod Read
 pub mod Marks
-pub mod Boxes
 pub mod Listed
 pub mod Holds
 pub mod Answers

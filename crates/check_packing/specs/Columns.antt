@@ -2,13 +2,11 @@
 use Prim.Native.Nat.{ℕ, zero, suc, _+_, _*_, _/_, _<_}
 use mathlib.Core.Path.{_≡_}
 use mathlib.Core.Bool.{Bool, false, cond, _&&_}
-use mathlib.Core.List.{List, [], _∷_}
+use mathlib.Core.List.{List}
 use lib.Dec.{eqb, ltb}
-use lib.ListN.{length, getD, set}
-use lib.Ieee.{Float}
-use Rattle.floats.specs.Ops.{x, y, z}
+use lib.ListN.{length, getD}
 use Rattle.lists.specs.Below.{anyBelow, sumBelow, isAt}
-use Rattle.domain.specs.Bounds.{mostKinds, mostLines, mostBoxes}
+use Rattle.domain.specs.Bounds.{mostKinds, mostBoxes}
 use Rattle.sheet.specs.declared.Sheet.{Sheet}
 use Rattle.sheet.specs.declared.Counts.{Counts}
 use Rattle.sheet.specs.Sheets.{kindAt, lineAt, quantityOf}
@@ -51,20 +49,6 @@ kindNamed s i = kindOf s (lineAt s i .id)
 
 unfoldable pub boxRead : List ℕ → ℕ → Extent
 boxRead f i = boxOf (lineAt (sheetOf f) i) (kindIn f (kindNamed (sheetOf f) i))
-
--- numbers put one into each column from a place on; the columns stand one behind the other
-unfoldable pub spread : List Float → ℕ → List Float → List Float
-spread o at [] = o
-spread o at (v ∷ vs) = spread (set o at v) (mostLines + at) vs
-
--- a box's corners put into row i of the six columns that `check_list: extentAt` reads
-unfoldable pub boxSet : List Float → ℕ → Extent → List Float
-boxSet o i e = spread o i (x (e .min) ∷ y (e .min) ∷ z (e .min) ∷ x (e .max) ∷ y (e .max) ∷ z (e .max) ∷ [])
-
--- the boxes g 0, g 1, .. below n in the first rows
-unfoldable pub boxesFilled : List Float → (ℕ → Extent) → ℕ → List Float
-boxesFilled old g zero = old
-boxesFilled old g (suc n) = boxSet (boxesFilled old g n) n (g n)
 
 -- ---- marks: one for each box of the order
 

@@ -1,21 +1,19 @@
 // What is read off an accepted load file once, before its findings are listed: columns by kind and by line.
 ghost use mathlib.Core.Path.{_≡_};
-ghost use Prim.Native.Nat.{ℕ, _≤_, _<_};
-ghost use lib.ListN.{replicate};
-ghost use Rattle.domain.specs.Bounds.{mostKinds, mostLines, mostBoxes};
+ghost use Prim.Native.Nat.{ℕ, _*_, _≤_, _<_};
+ghost use lib.ListN.{length, replicate};
+ghost use Rattle.domain.specs.Bounds.{mostKinds, mostBoxes};
 ghost use Rattle.domain.specs.Refusals.{when};
 ghost use Rattle.lists.specs.Table.{filled};
 ghost use Rattle.file_read.specs.Reading.{sheetOf};
 ghost use Rattle.file_accept.specs.Accept.{Taken};
 ghost use Rattle.check_packing.specs.Lines.{massOf, massWith, massBelow, repeats};
-ghost use Rattle.check_packing.specs.Columns.{kindId, kindMany, kindFirst, placeBelow, Ids, Many, Packed, kindNamed, boxRead, boxSet, boxesFilled};
+ghost use Rattle.check_words.specs.Corners.{boxesFilled};
+ghost use Rattle.check_packing.specs.Columns.{kindId, kindMany, kindFirst, placeBelow, Ids, Many, Packed, kindNamed, boxRead};
 ghost use Rattle.check_packing.specs.Columns.{shortIn, slotOf, MarksRead};
-use check_pair::Extent;
 use file_accept::Accepted;
 use file_read::records;
 use measures::Kind;
-
-const LINES: usize = domain::MOST_LINES;
 
 // The ids and quantities of the kinds.
 pub(crate) fn kind_columns(
@@ -93,35 +91,16 @@ fn mass_with(sum: f64, known: bool, k: Kind) -> f64
     sum
 }
 
-// The corners of a box, in row i of their columns.
-fn put_box(boxes: &mut [f64; check_list::CORNERS], i: usize, e: Extent)
-    requires { ⌜ i < mostLines ⌝ }
-    ensures { λ _. ⌜ now (boxes .exit) ≡ boxSet (now (boxes .entry)) i e ⌝ }
-{
-    let near = e.min;
-    let far = e.max;
-    let y = LINES + i;
-    let z = LINES + y;
-    let xx = LINES + z;
-    let yy = LINES + xx;
-    let zz = LINES + yy;
-    boxes[i] = near[0];
-    boxes[y] = near[1];
-    boxes[z] = near[2];
-    boxes[xx] = far[0];
-    boxes[yy] = far[1];
-    boxes[zz] = far[2];
-}
-
 // The place of the kind of each line and the corners of its box; and the mass of all.
 pub(crate) fn line_columns(
     f: &[u8],
     a: Accepted,
     ids: &[u32; domain::MOST_KINDS],
-    which: &mut [usize; domain::MOST_LINES],
-    boxes: &mut [f64; check_list::CORNERS],
+    which: &mut [usize],
+    boxes: &mut [f64],
 ) -> f64
-    requires { ⌜ Taken (now f) a × Ids (sheetOf (now f)) (a .kinds) (now ids) ⌝ }
+    requires { ⌜ Taken (now f) a × (Ids (sheetOf (now f)) (a .kinds) (now ids)
+        × ((a .lines ≤ length (now which)) × (6 * a .lines ≤ length (now boxes)))) ⌝ }
     ensures { λ r. ⌜ (r ≡ massBelow (sheetOf (now (f .entry))) (a .lines))
         × (now (which .exit) ≡ filled (now (which .entry)) (kindNamed (sheetOf (now (f .entry)))) (a .lines))
         × (now (boxes .exit) ≡ boxesFilled (now (boxes .entry)) (boxRead (now (f .entry))) (a .lines)) ⌝ }
@@ -136,7 +115,7 @@ pub(crate) fn line_columns(
         let k = records::kind_in(f, w);
         mass = mass_with(mass, w < m, k);
         which[i] = w;
-        put_box(boxes, i, check_words::box_of(l, k));
+        check_words::put_box(boxes, i, check_words::box_of(l, k));
         i += 1;
     }
     mass
@@ -166,13 +145,14 @@ fn one_if(on: bool) -> u32
 pub(crate) fn mark_columns(
     f: &[u8],
     a: Accepted,
-    which: &[usize; domain::MOST_LINES],
+    which: &[usize],
     many: &[u32; domain::MOST_KINDS],
     firsts: &[u32; domain::MOST_KINDS],
-    again: &mut [bool; domain::MOST_LINES],
+    again: &mut [bool],
     packed: &mut [u32; domain::MOST_KINDS],
 )
-    requires { ⌜ MarksRead (now f) a (now which) (now many) (now firsts) × (now packed ≡ replicate mostKinds 0) ⌝ }
+    requires { ⌜ MarksRead (now f) a (now which) (now many) (now firsts) × ((now packed ≡ replicate mostKinds 0)
+        × ((a .lines ≤ length (now which)) × (a .lines ≤ length (now again)))) ⌝ }
     ensures { λ _. ⌜ (now (again .exit) ≡ filled (now (again .entry)) (repeats (sheetOf (now (f .entry)))) (a .lines))
         × Packed (sheetOf (now (f .entry))) (a .kinds) (now (packed .exit)) ⌝ }
 {

@@ -3,15 +3,16 @@ ghost use mathlib.Core.Path.{_≡_};
 ghost use Prim.Native.Nat.{_+_, _*_, _≤_};
 ghost use lib.ListN.{replicate};
 ghost use Rattle.check_words.specs.Wrote.{roomFor};
-ghost use Rattle.domain.specs.Bounds.{mostKinds, mostLines, mostUnplaced};
+ghost use Rattle.domain.specs.Bounds.{mostKinds, mostLines, mostUnplaced, fewLines};
 ghost use Rattle.file_read.specs.Reading.{sheetOf};
 ghost use Rattle.file_accept.specs.Accept.{Taken};
 ghost use Rattle.check_list.specs.View.{restFound};
-ghost use Rattle.check_list.specs.Held.{Ran, mostLineWords};
+ghost use Rattle.check_list.specs.Held.{Ran, Wide, mostLineWords};
 ghost use Rattle.check_packing.specs.Lines.{mass};
 ghost use Rattle.check_packing.specs.Findings.{viewOf, findings};
 ghost use Rattle.check_packing.specs.Columns.{Ids, Many, Packed, LinesPut, countsOf};
 ghost use Rattle.check_packing.specs.Check.{CheckedFile};
+use check_words::CORNERS;
 use file_accept::Accepted;
 use file_read::records;
 use sheet::Counts;
@@ -49,8 +50,93 @@ fn counts_of(a: Accepted) -> Counts
     }
 }
 
-// The findings of the lines and of their pairs, from the first cell on; and how many copies of each kind are packed. A sheet without
-// lines has none, and no column of lines is made for it.
+// The findings of the lines and of their pairs, from the first cell on; and how many copies of each kind are packed. The columns of the
+// lines are lent.
+fn put_columns(
+    f: &[u8],
+    a: Accepted,
+    ids: &[u32; domain::MOST_KINDS],
+    many: &[u32; domain::MOST_KINDS],
+    packed: &mut [u32; domain::MOST_KINDS],
+    out: &mut [u64],
+    which: &mut [usize],
+    again: &mut [bool],
+    boxes: &mut [f64],
+) -> Lined
+    requires { ⌜ (Taken (now f) a × (Ids (sheetOf (now f)) (a .kinds) (now ids) × (Many (sheetOf (now f)) (a .kinds) (now many)
+        × (now packed ≡ replicate mostKinds 0))))
+        × Wide (a .lines) (now which) (now again) (now boxes) ⌝ }
+    ensures { λ r. ⌜ LinesPut (sheetOf (now (f .entry))) (now (out .entry)) (now (packed .exit)) r (now (out .exit)) ⌝ }
+{
+    let mut firsts = [0u32; domain::MOST_KINDS];
+    columns::first_column(f, a, many, &mut firsts);
+    let mass = columns::line_columns(f, a, ids, which, boxes);
+    columns::mark_columns(f, a, which, many, &firsts, again, packed);
+    let c = records::container_in(f);
+    let words = check_list::line_findings(out, f, a.start, counts_of(a), c, which, again, boxes);
+    Lined { words, mass }
+}
+
+// The same with columns for few lines.
+fn put_few(
+    f: &[u8],
+    a: Accepted,
+    ids: &[u32; domain::MOST_KINDS],
+    many: &[u32; domain::MOST_KINDS],
+    packed: &mut [u32; domain::MOST_KINDS],
+    out: &mut [u64],
+) -> Lined
+    requires { ⌜ (Taken (now f) a × (Ids (sheetOf (now f)) (a .kinds) (now ids) × (Many (sheetOf (now f)) (a .kinds) (now many)
+        × (now packed ≡ replicate mostKinds 0))))
+        × (a .lines ≤ fewLines) ⌝ }
+    ensures { λ r. ⌜ LinesPut (sheetOf (now (f .entry))) (now (out .entry)) (now (packed .exit)) r (now (out .exit)) ⌝ }
+{
+    let mut which = [0usize; domain::FEW_LINES];
+    let mut again = [false; domain::FEW_LINES];
+    let mut boxes = [0.0; CORNERS * domain::FEW_LINES];
+    put_columns(
+        f,
+        a,
+        ids,
+        many,
+        packed,
+        out,
+        &mut which,
+        &mut again,
+        &mut boxes,
+    )
+}
+
+// The same with columns for as many lines as there can be.
+fn put_many(
+    f: &[u8],
+    a: Accepted,
+    ids: &[u32; domain::MOST_KINDS],
+    many: &[u32; domain::MOST_KINDS],
+    packed: &mut [u32; domain::MOST_KINDS],
+    out: &mut [u64],
+) -> Lined
+    requires { ⌜ Taken (now f) a × (Ids (sheetOf (now f)) (a .kinds) (now ids) × (Many (sheetOf (now f)) (a .kinds) (now many)
+        × (now packed ≡ replicate mostKinds 0))) ⌝ }
+    ensures { λ r. ⌜ LinesPut (sheetOf (now (f .entry))) (now (out .entry)) (now (packed .exit)) r (now (out .exit)) ⌝ }
+{
+    let mut which = [0usize; domain::MOST_LINES];
+    let mut again = [false; domain::MOST_LINES];
+    let mut boxes = [0.0; CORNERS * domain::MOST_LINES];
+    put_columns(
+        f,
+        a,
+        ids,
+        many,
+        packed,
+        out,
+        &mut which,
+        &mut again,
+        &mut boxes,
+    )
+}
+
+// The same for every sheet: one without lines has none, and no column of lines is made for it.
 fn put_lines(
     f: &[u8],
     a: Accepted,
@@ -69,16 +155,10 @@ fn put_lines(
             mass: 0.0,
         };
     }
-    let mut firsts = [0u32; domain::MOST_KINDS];
-    let mut which = [0usize; domain::MOST_LINES];
-    let mut again = [false; domain::MOST_LINES];
-    let mut boxes = [0.0; check_list::CORNERS];
-    columns::first_column(f, a, many, &mut firsts);
-    let mass = columns::line_columns(f, a, ids, &mut which, &mut boxes);
-    columns::mark_columns(f, a, &which, many, &firsts, &mut again, packed);
-    let c = records::container_in(f);
-    let words = check_list::line_findings(out, f, a.start, counts_of(a), c, &which, &again, &boxes);
-    Lined { words, mass }
+    if a.lines <= domain::FEW_LINES {
+        return put_few(f, a, ids, many, packed, out);
+    }
+    put_many(f, a, ids, many, packed, out)
 }
 
 // The findings on the mass and the unplaced list, behind those of the lines; and where they end.

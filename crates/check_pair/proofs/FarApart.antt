@@ -21,7 +21,7 @@ le-number-r (fin s m e) nan h = absurd h
 le-number-r v (inf s) h = tt
 le-number-r v (fin s m e) h = tt
 
-holds : (b : Bool) → b ≡ true → T b
+pub holds : (b : Bool) → b ≡ true → T b
 holds b e = subst T (sym e) tt
 
 -- a gap that is at least a bound is not below it
@@ -63,7 +63,7 @@ some-less low high g h k =
     third false true c e = refl
     third false false c e = e
 
-no-number : (g : List Float) → someGap (none ⊘ none) g ≡ false
+pub no-number : (g : List Float) → someGap (none ⊘ none) g ≡ false
 unfolding div ofBits le
 no-number g = refl
 

@@ -3,3 +3,5 @@ pub mod Shortcut
 pub mod Verdicts
 pub mod FarApart
 pub mod Examples
+pub mod Told
+pub mod Spanned

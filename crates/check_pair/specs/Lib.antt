@@ -4,3 +4,5 @@ pub mod Pair
 pub mod Shortcut
 pub mod Solid
 pub mod Symmetry
+pub mod Close
+pub mod Span

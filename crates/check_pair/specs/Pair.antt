@@ -24,9 +24,13 @@ overlaps g t = lt (x g) (neg t) && (lt (y g) (neg t) && lt (z g) (neg t))
 abbrev pub squared : Float → Float
 squared g = larger none g ⊗ larger none g
 
--- the rounded root of the squares of the gaps above zero, summed from the left
+-- the squares of the gaps above zero, summed from the left
+abbrev pub sumOf : List Float → Float
+sumOf g = squared (x g) ⊕ squared (y g) ⊕ squared (z g)
+
+-- the rounded root of that
 unfoldable pub distanceOf : List Float → Float
-distanceOf g = sqrtOf binary64 (squared (x g) ⊕ squared (y g) ⊕ squared (z g))
+distanceOf g = sqrtOf binary64 (sumOf g)
 
 -- boxes that overlap; else too close where the distance is below the one asked, less the tolerance
 unfoldable pub verdictAt : List Float → Float → Float → Verdict

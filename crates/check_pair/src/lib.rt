@@ -2,8 +2,13 @@
 ghost use mathlib.Core.Path.{_≡_};
 ghost use Prim.Native.Nat.{_<_};
 ghost use Rattle.check_pair.specs.Tolerance.{magnitude, toleranceOf};
-ghost use Rattle.check_pair.specs.Pair.{gap, gaps, overlaps, squared, distanceOf, verdictOf};
+ghost use Rattle.check_pair.specs.Pair.{gap, gaps, overlaps, squared, sumOf, distanceOf, verdictOf};
 ghost use Rattle.check_pair.specs.Shortcut.{plain, someGap, farEnough, limitOf};
+ghost use Rattle.check_pair.specs.Close.{closeOf, foundBy};
+ghost use Rattle.check_pair.specs.Span.{spansOn, spans};
+
+// A little less than 1.
+const NEARLY: f64 = 0.999;
 
 // Where a box lies: its near corner and its far corner.
 pub struct Extent {
@@ -69,10 +74,17 @@ fn squared(g: f64) -> f64
     p * p
 }
 
+// The sum of the squares, from the left.
+fn sum_of(g: [f64; 3]) -> f64
+    ensures { λ r. ⌜ r ≡ sumOf g ⌝ }
+{
+    (squared(g[0]) + squared(g[1])) + squared(g[2])
+}
+
 fn distance(g: [f64; 3]) -> f64
     ensures { λ r. ⌜ r ≡ distanceOf g ⌝ }
 {
-    check_root::sqrt((squared(g[0]) + squared(g[1])) + squared(g[2]))
+    check_root::sqrt(sum_of(g))
 }
 
 // A number whose square neither overflows nor loses digits.
@@ -115,6 +127,38 @@ pub fn judge(a: Extent, b: Extent, asked: f64, t: f64) -> Verdict
     Verdict::Apart
 }
 
+// Sums of squares up to this are too close without a root, where boxes are to be `asked` apart: a little less than the square of what is
+// asked, if the root of that is below it, which one root tells.
+pub fn close(asked: f64, t: f64) -> f64
+    ensures { λ r. ⌜ r ≡ closeOf asked t ⌝ }
+{
+    let least = asked - t;
+    let c = NEARLY * (least * least);
+    if check_root::sqrt(c) < least {
+        return c;
+    }
+    0.0
+}
+
+// Whether two boxes get a finding, for whoever does not ask for the distance. Sums of squares above 0 and up to `close` count as too close.
+pub fn is_found(a: Extent, b: Extent, asked: f64, t: f64, close: f64) -> bool
+    ensures { λ r. ⌜ r ≡ foundBy close (gaps a b) asked t ⌝ }
+{
+    let g = gaps(a, b);
+    if overlaps(g, t) {
+        return true;
+    }
+    let s = sum_of(g);
+    if (0.0 < s) & (s <= close) {
+        return true;
+    }
+    let least = asked - t;
+    if far_enough(g, least) {
+        return false;
+    }
+    check_root::sqrt(s) < least
+}
+
 // From this gap on, on one axis, two boxes that are to be `asked` apart get no finding. Not a number, which no gap is at
 // least, where one gap alone does not tell.
 pub fn limit(asked: f64, t: f64) -> f64
@@ -135,4 +179,25 @@ pub fn is_far(a: Extent, b: Extent, limit: f64) -> bool
     ensures { λ r. ⌜ r ≡ someGap limit (gaps a b) ⌝ }
 {
     some_gap(limit, gaps(a, b))
+}
+
+// Whether on an axis a span is within what corners can be, and the box within the span.
+fn spans_on(s: Extent, e: Extent, axis: usize) -> bool
+    requires { ⌜ axis < 3 ⌝ }
+    ensures { λ r. ⌜ r ≡ spansOn s e axis ⌝ }
+{
+    let low = s.min;
+    let high = s.max;
+    let near = e.min;
+    let far = e.max;
+    let ordinary = (-domain::MOST_LIMIT <= low[axis]) & (high[axis] <= domain::MOST_LIMIT);
+    let past = (near[axis] <= far[axis]) & (far[axis] <= high[axis]);
+    ordinary & ((low[axis] <= near[axis]) & past)
+}
+
+// Whether a box is within a span. No branch, so that a loop over many boxes is done a few at a time.
+pub fn is_spanned(s: Extent, e: Extent) -> bool
+    ensures { λ r. ⌜ r ≡ spans s e ⌝ }
+{
+    spans_on(s, e, 0) & (spans_on(s, e, 1) & spans_on(s, e, 2))
 }

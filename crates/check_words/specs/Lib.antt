@@ -3,3 +3,4 @@ pub mod Words
 pub mod Wrote
 pub mod Writes
 pub mod Boxes
+pub mod Corners

@@ -5,6 +5,7 @@ ghost use Prim.Native.Nat.{_+_, _<_};
 ghost use Rattle.check_words.specs.Words.{onlyIf};
 ghost use Rattle.check_words.specs.Wrote.{Wrote, Given, mostWords};
 ghost use Rattle.check_words.specs.Boxes.{boxOf};
+ghost use Rattle.check_words.specs.Corners.{boxIn};
 use check_pair::Extent;
 use measures::Kind;
 use sheet::Line;
@@ -70,4 +71,30 @@ pub fn box_of(l: Line, k: Kind) -> Extent
     let min = [at[0], at[1], at[2]];
     let max = [at[0] + size[0], at[1] + size[1], at[2] + size[2]];
     Extent { min, max }
+}
+
+// Cells that the corners of a box take: near x, y and z, far x, y and z.
+pub const CORNERS: usize = 6;
+
+// Stores the corners of a box in row i, if there is such a row.
+pub fn put_box(boxes: &mut [f64], i: usize, e: Extent)
+    ensures { λ _. ⌜ now (boxes .exit) ≡ boxIn (now (boxes .entry)) i e ⌝ }
+{
+    if boxes.len() / CORNERS <= i {
+        return;
+    }
+    let near = e.min;
+    let far = e.max;
+    let x = CORNERS * i;
+    let y = 1 + x;
+    let z = 1 + y;
+    let xx = 1 + z;
+    let yy = 1 + xx;
+    let zz = 1 + yy;
+    boxes[x] = near[0];
+    boxes[y] = near[1];
+    boxes[z] = near[2];
+    boxes[xx] = far[0];
+    boxes[yy] = far[1];
+    boxes[zz] = far[2];
 }

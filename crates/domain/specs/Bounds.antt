@@ -22,6 +22,13 @@ mostItems = 256
 abbrev pub mostInstances : ℕ
 mostInstances = 256
 
+-- most orders and sheets are small: a store for so many boxes or lines is made where it does, which no answer tells
+abbrev pub fewBoxes : ℕ
+fewBoxes = 64
+
+abbrev pub fewLines : ℕ
+fewLines = 64
+
 -- a place that a store of kinds has: the last one for a number past them
 unfoldable pub placeWithin : ℕ → ℕ
 placeWithin k = cond (ltb k mostKinds) k (mostKinds - 1)

@@ -18,6 +18,11 @@ pub const MOST_ITEMS: usize = 256;
 
 pub const MOST_INSTANCES: usize = 256;
 
+// Most orders and sheets are small: a store for so many boxes or lines is made where it does. No answer tells which was.
+pub const FEW_BOXES: usize = 64;
+
+pub const FEW_LINES: usize = 64;
+
 // Ranges.
 pub const LEAST_LENGTH: f64 = 0.000001;
 

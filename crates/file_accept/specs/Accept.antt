@@ -13,7 +13,7 @@ use Rattle.sheet.specs.Sheets.{overCount, sheetRefusal}
 use Rattle.file_read.specs.Form.{rightShape, countsOf, linesStart, unplacedStart}
 use Rattle.file_read.specs.Reading.{sheetOf, refusalOf}
 use Rattle.file_accept.specs.declared.Accepted.{Accepted}
-use Rattle.file_read.specs.Records.{Readable, many-is}
+use Rattle.file_read.specs.Records.{Readable}
 
 -- a refused file, by its number
 abbrev pub refusedBy : ℕ → Accepted
@@ -46,13 +46,13 @@ answer-taken f e = rw e
 -- ---- what a caller knows
 
 pub readable : (f : List ℕ) → refusalOf f ≡ 0 → Readable f
-unfolding refusalOf sheetRefusal
+unfolding refusalOf sheetRefusal sheetOf
 readable f h =
-    let over = overCount (sheetOf f .many) in
+    let over = overCount (countsOf f) in
     let wrong = not (rightShape f) in
     record {
       shape = not-true-of (rightShape f) (when-none wrong 0 (or-else-first (when wrong 1) _ h));
-      counts-right = rw many-is (when-none over 1 (or-else-first (when over 2) _ (or-else-second (when wrong 1) _ h)));
+      counts-right = when-none over 1 (or-else-first (when over 2) _ (or-else-second (when wrong 1) _ h));
     }
 
 pub refusal-is : (f : List ℕ) → acceptOf f .refused ≡ refusalOf f

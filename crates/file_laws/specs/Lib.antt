@@ -10,3 +10,4 @@ pub mod Tidy
 pub mod WriteRead
 pub mod RoundTrip
 pub mod Planned
+pub mod Counts

@@ -23,6 +23,7 @@ use Rattle.file_write.specs.Writing.{containerOut, kindsOut, lineNumbers, lineO
 use Rattle.file_write.specs.Writing.{bytesAfter}
 use Rattle.sheet.specs.Columns.{Columns, columnLine}
 use Rattle.file_write.specs.Planned.{columnsOut, planOut, overPlan, planWritten, planAfter}
+use Rattle.sheet.specs.Room.{Roomy, has-room}
 use Rattle.file_laws.specs.Parts.{Bytes, joined}
 use Rattle.file_laws.specs.ReadWrite.{AcceptedFile, accepted-file, block-is, kinds-are}
 
@@ -34,6 +35,7 @@ pub record Plans (f : List ℕ) (c : Columns) (left : List ℕ) (s : Sheet) : Ty
   pub line-is : (i : ℕ) → i < s .many .lines → lineNumbers (lineAt s i) ≡ lineNumbers (columnLine c i)
   pub left-is : (i : ℕ) → i < s .many .unplaced → unplacedAt s i ≡ getD left i 0
   pub left-few : s .many .unplaced ≤ mostKinds
+  pub cells : Roomy c (s .many .lines)
 
 module _ (f : List ℕ) (bytes : Bytes f) (order : refusalOf f ≡ 0) (c : Columns) (left : List ℕ) (s : Sheet) (p : Plans f c left s) where
   -- the container block and the kinds of the sheet are the order's bytes
@@ -60,16 +62,21 @@ module _ (f : List ℕ) (bytes : Bytes f) (order : refusalOf f ≡ 0) (c : Colum
       sym (append-assoc (containerOut (s .container)) (kindsOut (s .kinds) (s .many .kinds)) _) ∙ rw (head-is, lines-same, ids-same)
 
   -- the guards of the call do not hold
-  holds : sheetRefusal s ≡ 0 → overPlan (s .many) ≡ false
+  holds : sheetRefusal s ≡ 0 → overPlan (s .many) c ≡ false
   holds h =
       let few = accepted s h .few-of in
-      rw (le-ltb mostKinds (s .many .kinds) (few .kinds), le-ltb mostLines (s .many .lines) (few .lines), le-ltb mostKinds (s .many .unplaced) (p .left-few))
+      rw (
+        le-ltb mostKinds (s .many .kinds) (few .kinds),
+        le-ltb mostLines (s .many .lines) (few .lines),
+        le-ltb mostKinds (s .many .unplaced) (p .left-few),
+        has-room c (s .many .lines) (p .cells),
+      )
 
   long : linesFrom (s .many) ≤ length f
   long = let a = accepted-file f order .shape in rw (p .kinds-are) (omega (arith, a))
 
   -- **`write_plan` answers and leaves what `write_sheet` would**
-  pub plan-answer : sheetRefusal s ≡ 0 → (lent : ℕ) → planWritten (length f) (s .many) lent ≡ writtenOf s lent
+  pub plan-answer : sheetRefusal s ≡ 0 → (lent : ℕ) → planWritten (length f) (s .many) c lent ≡ writtenOf s lent
   unfolding planWritten writtenOf
   plan-answer h lent = rw (holds h, le-ltb (length f) (linesFrom (s .many)) long, h)
 

@@ -15,7 +15,8 @@ use Rattle.sheet.specs.Accepted.{Few}
 use Rattle.file_bytes.specs.Bytes.{u32At, u32Out}
 use Rattle.file_read.specs.Form.{linesStart, unplacedStart, countsOf}
 use Rattle.lists.specs.Table.{filled, table}
-use Rattle.file_read.specs.Reading.{kindFrom, lineFrom, kindPlace, linePlace, idPlace, blankKind, blankLine, kindsOf, linesOf, idsOf, sheetOf}
+use Rattle.file_read.specs.Reading.{kindFrom, lineFrom, kindPlace, linePlace, idPlace, blankKind, blankLine}
+use Rattle.file_read.specs.Reading.{kindsBy, linesBy, idsBy, kindsOf, linesOf, idsOf, sheetOf}
 use Rattle.file_write.specs.Writing.{kindOut, lineOut, kindsOut, linesOut, idsOut, fileOf}
 use Rattle.lists.specs.Below.{fewer, any-same, all-same, sum-same}
 use Rattle.lists.specs.Table.{table-at, table-past, table-same, table-is}
@@ -81,7 +82,7 @@ tidy-exactly s t few = (blank-tidy s, tidy-blank s t few)
 
 -- **what a file says is tidy**
 pub read-tidy : (f : List ℕ) → Few (countsOf f) → tidy (sheetOf f) ≡ sheetOf f
-unfolding tidy sheetOf kindsOf linesOf idsOf
+unfolding tidy sheetOf kindsBy linesBy idsBy
 read-tidy f few =
     let n = countsOf f in
     rw (
@@ -105,12 +106,13 @@ tidy-file s few =
     )
 
 -- each fold sees only the first n
-first-same : (g h : ℕ → ℕ) (n : ℕ) → ((k : ℕ) → k < n → g k ≡ h k) → firstBelow g n ≡ firstBelow h n
+pub first-same : (g h : ℕ → ℕ) (n : ℕ) → ((k : ℕ) → k < n → g k ≡ h k) → firstBelow g n ≡ firstBelow h n
 unfolding firstBelow
 first-same g h zero e = refl
 first-same g h (suc n) e = rw (first-same g h n (fewer n e), e n (omega arith))
 
-fault-same : (a b : List Kind) (n : ℕ) → ((k : ℕ) → k < n → getD a k noKind ≡ getD b k noKind) → (k : ℕ) → k < n → kindFaultIn a k ≡ kindFaultIn b k
+-- and so does the fault of a kind, which looks at earlier ones
+pub fault-same : (a b : List Kind) (n : ℕ) → ((k : ℕ) → k < n → getD a k noKind ≡ getD b k noKind) → (k : ℕ) → k < n → kindFaultIn a k ≡ kindFaultIn b k
 unfolding kindFaultIn sameId
 fault-same a b n e k l = rw (any-same (sameId a k) (sameId b k) k (λ j m. rw (e j (omega arith), e k l)), e k l)
 

@@ -19,7 +19,7 @@ use Rattle.file_bytes.specs.Bytes.{byte, half, word, u32At, u64At, f64At}
 use Rattle.file_bytes.specs.Layout.{fieldsAt}
 use Rattle.file_read.specs.Form.{countsOf}
 use Rattle.file_read.specs.Reading.{containerOf, kindOf, lineOf, containerFrom, kindFrom, lineFrom, kindPlace, linePlace, idPlace}
-use Rattle.file_read.specs.Reading.{blankKind, blankLine, kindsOf, linesOf, idsOf, sheetOf}
+use Rattle.file_read.specs.Reading.{blankKind, blankLine, kindsBy, linesBy, idsBy, sheetOf}
 use Rattle.file_laws.specs.Parts.{Bytes, number-below}
 use Rattle.lists.specs.Table.{table-length, table-each}
 
@@ -121,7 +121,7 @@ blank-line-typed : TypedLine blankLine
 blank-line-typed = record { id = omega arith; instance = omega arith; orientation = omega arith; bin = omega arith; at = blank-typed }
 
 pub read-typed : (f : List ℕ) → Bytes f → Few (countsOf f) → Typed (sheetOf f)
-unfolding sheetOf kindsOf linesOf idsOf
+unfolding sheetOf kindsBy linesBy idsBy
 read-typed f bytes few =
     let n = countsOf f in
     record {

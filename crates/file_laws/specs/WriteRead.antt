@@ -21,13 +21,14 @@ use Rattle.file_bytes.specs.Bytes.{byte, half, word, float, u32At, part}
 use Rattle.file_read.specs.Form.{blockFields, kindFields, lineFields, trailerFields, blockBytes, kindBytes, lineBytes, idBytes, trailerBytes, mostBytes}
 use Rattle.file_read.specs.Form.{form, letterL, letterS, trailer, trailerOf, linesStart, unplacedStart, trailerStart, placed, whole, rightShape, countsOf}
 use Rattle.file_read.specs.Reading.{containerOf, kindOf, lineOf, containerFrom, kindFrom, lineFrom, kindPlace, blankKind, blankLine}
-use Rattle.file_read.specs.Reading.{kindsOf, linesOf, idsOf, sheetOf, refusalOf}
+use Rattle.file_read.specs.Reading.{kindsBy, linesBy, idsBy, kindsOf, linesOf, idsOf, sheetOf, refusalOf}
 use Rattle.file_write.specs.Writing.{bitsOf, containerNumbers, kindNumbers, lineNumbers, trailerNumbers, containerOut, kindOut, lineOut, trailerOut}
 use Rattle.file_write.specs.Writing.{linesFrom, unplacedFrom, trailerFrom, fileOf}
 use Rattle.file_laws.specs.Parts.{Bytes, number-there}
 use Rattle.file_laws.specs.Fields.{Fit, none, one, record-forth}
 use Rattle.lists.specs.Table.{table-same}
 use Rattle.file_read.specs.Shaped.{Placed, Shaped}
+use Rattle.file_read.specs.Refusal.{sheet-decides}
 use Rattle.file_write.specs.Stores.{file-length-is}
 use Rattle.file_laws.specs.Layout.{file-bytes, block-there, kind-there, line-there, id-there, trailer-there}
 use Rattle.file_laws.specs.Typed.{Held, TypedVector, TypedContainer, TypedKind, TypedLine, Typed}
@@ -195,19 +196,19 @@ module _ (s : Sheet) (typed : Typed s) (few : Few (s .many)) where
   container-comes = container-forth (fileOf s) (s .container) (block-there s) (typed .container)
 
   kinds-come : kindsOf (fileOf s) (s .many .kinds) ≡ tidy s .kinds
-  unfolding kindsOf tidy
+  unfolding kindsBy tidy
   kinds-come =
       table-same blankKind mostKinds (λ k. kindFrom (fileOf s) (kindPlace k)) (λ k. kindAt s k) (s .many .kinds)
       (λ k l. kind-forth (fileOf s) (kindPlace k) (kindAt s k) (kind-there s k l) (typed .kind k (omega (arith, few))))
 
   lines-come : linesOf (fileOf s) (linesFrom (s .many)) (s .many .lines) ≡ tidy s .lines
-  unfolding linesOf tidy
+  unfolding linesBy tidy
   lines-come =
       table-same blankLine mostLines (λ i. lineFrom (fileOf s) (linesFrom (s .many) + i * lineBytes)) (λ i. lineAt s i) (s .many .lines)
       (λ i l. line-forth (fileOf s) (linesFrom (s .many) + i * lineBytes) (lineAt s i) (line-there s i l) (typed .line i (omega (arith, few))))
 
   ids-come : idsOf (fileOf s) (unplacedFrom (s .many)) (s .many .unplaced) ≡ tidy s .unplaced
-  unfolding idsOf tidy
+  unfolding idsBy tidy
   ids-come =
       table-same 0 mostUnplaced (λ i. u32At (fileOf s) (unplacedFrom (s .many) + i * idBytes)) (λ i. unplacedAt s i) (s .many .unplaced)
       (λ i l. number-there word (fileOf s) (unplacedFrom (s .many) + i * idBytes) (unplacedAt s i) (id-there s i l) (typed .id i (omega (arith, few))))
@@ -224,10 +225,9 @@ write-read s typed h = sheet-comes s typed (accepted s h .few-of)
 
 -- **and the file is accepted**
 pub write-accepted : (s : Sheet) → Typed s → sheetRefusal s ≡ 0 → refusalOf (fileOf s) ≡ 0
-unfolding refusalOf
 write-accepted s typed h =
     let few = accepted s h .few-of in
-    rw (right-shape (fileOf s) (file-shaped s few), write-read s typed h, tidy-refusal s few, h)
+    sheet-decides (fileOf s) (right-shape (fileOf s) (file-shaped s few)) ∙ ap sheetRefusal (write-read s typed h) ∙ tidy-refusal s few ∙ h
 
 -- the file of a sheet is bytes
 pub write-bytes : (s : Sheet) → Typed s → sheetRefusal s ≡ 0 → Bytes (fileOf s)

@@ -7,14 +7,13 @@ use lib.ListN.{getD, set, replicate}
 use lib.Ieee.{Float, binary64, ofBits}
 use Rattle.floats.specs.Ops.{none}
 use Rattle.lists.specs.Table.{filled, table}
-use Rattle.domain.specs.Bounds.{mostKinds, mostLines, mostUnplaced}
 use Rattle.domain.specs.Refusals.{when, orElse}
 use Rattle.measures.specs.declared.Kind.{Kind}
 use Rattle.measures.specs.declared.Container.{Container}
 use Rattle.sheet.specs.declared.Counts.{Counts}
 use Rattle.sheet.specs.declared.Line.{Line}
 use Rattle.sheet.specs.declared.Sheet.{Sheet}
-use Rattle.sheet.specs.Sheets.{sheetRefusal, emptySheet}
+use Rattle.sheet.specs.Sheets.{Most, mostNow, sheetRefusalBy, emptySheet}
 pub use Rattle.sheet.specs.Sheets.{blankKind, blankLine}
 use Rattle.file_read.specs.declared.Reading.{Reading}
 use Rattle.file_bytes.specs.Bytes.{u32At}
@@ -76,34 +75,52 @@ idPlace f i = unplacedStart f + i * idBytes
 
 -- ---- a sheet's lists have a cell for each record that there may be; the cells past those that count are blank
 
-unfoldable pub kindsOf : List ℕ → ℕ → List Kind
+-- n kinds, lines or unplaced ids in so many cells
+unfoldable pub kindsBy : ℕ → List ℕ → ℕ → List Kind
 unfolding filled
-kindsOf f n = table blankKind mostKinds (λ k. kindFrom f (kindPlace k)) n
+kindsBy cells f n = table blankKind cells (λ k. kindFrom f (kindPlace k)) n
 
-unfoldable pub linesOf : List ℕ → ℕ → ℕ → List Line
+unfoldable pub linesBy : ℕ → List ℕ → ℕ → ℕ → List Line
 unfolding filled
-linesOf f start n = table blankLine mostLines (λ i. lineFrom f (start + i * lineBytes)) n
+linesBy cells f start n = table blankLine cells (λ i. lineFrom f (start + i * lineBytes)) n
 
-unfoldable pub idsOf : List ℕ → ℕ → ℕ → List ℕ
+unfoldable pub idsBy : ℕ → List ℕ → ℕ → ℕ → List ℕ
 unfolding filled
-idsOf f start n = table 0 mostUnplaced (λ i. u32At f (start + i * idBytes)) n
+idsBy cells f start n = table 0 cells (λ i. u32At f (start + i * idBytes)) n
 
--- the sheet that a file says
-unfoldable pub sheetOf : List ℕ → Sheet
-unfolding countsOf
-sheetOf f =
+-- the sheet that a file says, in cells for so many records
+abbrev pub sheetBy : Most → List ℕ → Sheet
+sheetBy b f =
     record {
       many = countsOf f;
       container = containerFrom f;
-      kinds = kindsOf f (countsOf f .kinds);
-      lines = linesOf f (linesStart f) (countsOf f .lines);
-      unplaced = idsOf f (unplacedStart f) (countsOf f .unplaced);
+      kinds = kindsBy (b .kinds) f (countsOf f .kinds);
+      lines = linesBy (b .lines) f (linesStart f) (countsOf f .lines);
+      unplaced = idsBy (b .unplaced) f (unplacedStart f) (countsOf f .unplaced);
     }
 
 -- its shape first, then what it says
+abbrev pub refusalBy : Most → List ℕ → ℕ
+refusalBy b f = orElse (when (not (rightShape f)) 1) (sheetRefusalBy b (sheetBy b f))
+
+-- ---- the same by the counts that hold
+
+abbrev pub kindsOf : List ℕ → ℕ → List Kind
+kindsOf f n = kindsBy (mostNow .kinds) f n
+
+abbrev pub linesOf : List ℕ → ℕ → ℕ → List Line
+linesOf f start n = linesBy (mostNow .lines) f start n
+
+abbrev pub idsOf : List ℕ → ℕ → ℕ → List ℕ
+idsOf f start n = idsBy (mostNow .unplaced) f start n
+
+unfoldable pub sheetOf : List ℕ → Sheet
+unfolding countsOf
+sheetOf f = sheetBy mostNow f
+
 unfoldable pub refusalOf : List ℕ → ℕ
 unfolding orElse
-refusalOf f = orElse (when (not (rightShape f)) 1) (sheetRefusal (sheetOf f))
+refusalOf f = refusalBy mostNow f
 
 -- the reading call's answer; a refused file reads as a sheet with nothing in it
 unfoldable pub readOf : List ℕ → Reading

@@ -15,12 +15,12 @@ shape-refused f h = rw h
 
 -- past the shape the sheet decides
 pub sheet-decides : (f : List ℕ) → rightShape f ≡ true → refusalOf f ≡ sheetRefusal (sheetOf f)
-unfolding refusalOf orElse
+unfolding refusalOf orElse sheetRefusal sheetOf
 sheet-decides f h = rw h
 
 -- the sheet of a file that is not refused is not refused
 pub sheet-sound : (f : List ℕ) → refusalOf f ≡ 0 → sheetRefusal (sheetOf f) ≡ 0
-unfolding refusalOf
+unfolding refusalOf sheetRefusal sheetOf
 sheet-sound f h = or-else-second (when (not (rightShape f)) 1) (sheetRefusal (sheetOf f)) h
 
 pub count-refused : (f : List ℕ) → overCount (countsOf f) ≡ true → sheetRefusal (sheetOf f) ≡ 2

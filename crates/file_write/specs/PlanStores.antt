@@ -1,7 +1,7 @@
 -- What the stores of a planned sheet give together, and the answer in each case.
 use Prim.Native.Nat.{ℕ, zero, suc, _+_, _*_, _≤_, _<_}
 use mathlib.Core.Path.{_≡_, refl, sym, _∙_}
-use mathlib.Core.Bool.{true, false}
+use mathlib.Core.Bool.{true, false, _||_}
 use mathlib.Core.List.{List, [], _∷_, _++_}
 use native.Mathlib.Nat.{zero-add}
 use native.Mathlib.Omega.{arith}
@@ -20,7 +20,7 @@ use Rattle.file_write.specs.declared.Written.{Written}
 use Rattle.file_write.specs.Writing.{lineOut, idsOut, trailerOut, linesFrom, unplacedFrom, trailerFrom, fileLength}
 use Rattle.file_write.specs.Stores.{line-length, all-length, ids-length, trailer-length}
 use Rattle.sheet.specs.Columns.{Columns, columnLine}
-use Rattle.file_write.specs.Planned.{columnsOut, planOut, overPlan, planWritten, planAfter}
+use Rattle.file_write.specs.Planned.{columnsOut, planOut, overCounts, overPlan, planWritten, planAfter}
 
 -- the counts that the columns hold
 pub record Holds (m : Counts) : Type 0 where
@@ -28,7 +28,7 @@ pub record Holds (m : Counts) : Type 0 where
   pub lines : m .lines ≤ mostLines
   pub left : m .unplaced ≤ mostKinds
 
-pub holds : (m : Counts) → overPlan m ≡ false → Holds m
+pub holds : (m : Counts) → overCounts m ≡ false → Holds m
 holds m h =
     let b = or-right (ltb mostKinds (m .kinds)) _ h in
     record {
@@ -78,19 +78,19 @@ plan-put order m c left l head lines ids end =
 -- ---- the answer in each case
 
 pub record Told (order : List ℕ) (m : Counts) (c : Columns) (left out out′ : List ℕ) (w : Written) : Type 0 where
-  pub answer : w ≡ planWritten (length order) m (length out)
+  pub answer : w ≡ planWritten (length order) m c (length out)
   pub bytes : out′ ≡ planAfter order m c left out
 
 module _ (order : List ℕ) (m : Counts) (c : Columns) (left out : List ℕ) where
-  pub told-over : overPlan m ≡ true → Told order m c left out out (record { refused = 2; length = 0 })
+  pub told-over : overPlan m c ≡ true → Told order m c left out out (record { refused = 2; length = 0 })
   unfolding planAfter planWritten
   told-over h = record { answer = rw h; bytes = rw h }
 
-  pub told-short : overPlan m ≡ false → length order < linesFrom m → Told order m c left out out (record { refused = 1; length = 0 })
+  pub told-short : overPlan m c ≡ false → length order < linesFrom m → Told order m c left out out (record { refused = 1; length = 0 })
   unfolding planAfter planWritten
   told-short h l = let e = lt-ltb (length order) (linesFrom m) l in record { answer = rw (h, e); bytes = rw (h, e) }
 
-  pub told-room : (n : ℕ) → overPlan m ≡ false → linesFrom m ≤ length order → n ≡ fileLength m → length out < n
+  pub told-room : (n : ℕ) → overPlan m c ≡ false → linesFrom m ≤ length order → n ≡ fileLength m → length out < n
       → Told order m c left out out (record { refused = 6; length = n })
   unfolding planAfter planWritten
   told-room n h l e r =
@@ -98,7 +98,7 @@ module _ (order : List ℕ) (m : Counts) (c : Columns) (left out : List ℕ) whe
       let b : leb (fileLength m) (length out) ≡ false = lt-leb (fileLength m) (length out) (rw e at r) in
       rw e (record { answer = rw (h, a, b); bytes = rw (h, a, b) })
 
-  pub told-written : (n : ℕ) (out′ : List ℕ) → overPlan m ≡ false → linesFrom m ≤ length order → n ≡ fileLength m → n ≤ length out
+  pub told-written : (n : ℕ) (out′ : List ℕ) → overPlan m c ≡ false → linesFrom m ≤ length order → n ≡ fileLength m → n ≤ length out
       → Put out 0 (planOut order m c left) out′
       → Told order m c left out out′ (record { refused = 0; length = n })
   unfolding planAfter planWritten

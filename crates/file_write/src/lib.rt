@@ -1,7 +1,7 @@
 // Writing a load file, form 1: a sheet to bytes.
 ghost use mathlib.Core.Path.{_≡_};
 ghost use lib.ListN.{length};
-ghost use Rattle.file_write.specs.Planned.{overPlan};
+ghost use Rattle.file_write.specs.Planned.{overCounts};
 ghost use Rattle.file_write.specs.PlanStores.{Told};
 ghost use Rattle.file_write.specs.Writing.{writtenOf, bytesAfter};
 use file_read::layout;
@@ -34,25 +34,25 @@ pub fn write_sheet(s: Sheet, out: &mut [u8]) -> Written
     Written { refused: 0, length }
 }
 
-fn over_plan(many: Counts) -> bool
-    ensures { λ r. ⌜ r ≡ overPlan many ⌝ }
+fn over_counts(many: Counts) -> bool
+    ensures { λ r. ⌜ r ≡ overCounts many ⌝ }
 {
     (many.kinds > domain::MOST_KINDS)
         | ((many.lines > domain::MOST_LINES) | (many.unplaced > domain::MOST_KINDS))
 }
 
 // Writes a planned sheet at the start of the lent bytes: the container block and the kinds are the order's bytes, the lines and the ids of what
-// was left come from columns. The order was accepted and has so many kinds; counts over their bounds get 2, and an order that does not hold
-// its kinds 1.
+// was left come from columns. The order was accepted and has so many kinds; counts over their bounds or over the columns get 2, and an order that
+// does not hold its kinds 1.
 pub fn write_plan(
     order: &[u8],
     kinds: usize,
-    ids: &[u32; domain::MOST_LINES],
-    instances: &[u32; domain::MOST_LINES],
-    turns: &[u32; domain::MOST_LINES],
-    xs: &[f64; domain::MOST_LINES],
-    ys: &[f64; domain::MOST_LINES],
-    zs: &[f64; domain::MOST_LINES],
+    ids: &[u32],
+    instances: &[u32],
+    turns: &[u32],
+    xs: &[f64],
+    ys: &[f64],
+    zs: &[f64],
     placed: usize,
     left: &[u32; domain::MOST_KINDS],
     unplaced: usize,
@@ -74,7 +74,8 @@ pub fn write_plan(
         lines: placed,
         unplaced,
     };
-    if over_plan(many) {
+    let fits = sheet::has_room(ids, instances, turns, xs, ys, zs, placed);
+    if over_counts(many) | !fits {
         return Written {
             refused: 2,
             length: 0,

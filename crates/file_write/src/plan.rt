@@ -7,7 +7,9 @@ ghost use Rattle.file_bytes.specs.Bytes.{part};
 ghost use Rattle.file_bytes.specs.Stores.{Put};
 ghost use Rattle.file_read.specs.Form.{lineBytes, idBytes};
 ghost use Rattle.file_write.specs.Writing.{idsOut};
+ghost use Rattle.sheet.specs.Columns.{columns};
 ghost use Rattle.file_write.specs.Planned.{columnsOut};
+ghost use Rattle.sheet.specs.Room.{Roomy};
 use crate::write;
 use file_read::layout;
 use sheet::Line;
@@ -28,15 +30,16 @@ pub(crate) fn put_head(out: &mut [u8], order: &[u8], end: usize)
 pub(crate) fn put_columns(
     out: &mut [u8],
     start: usize,
-    ids: &[u32; domain::MOST_LINES],
-    instances: &[u32; domain::MOST_LINES],
-    turns: &[u32; domain::MOST_LINES],
-    xs: &[f64; domain::MOST_LINES],
-    ys: &[f64; domain::MOST_LINES],
-    zs: &[f64; domain::MOST_LINES],
+    ids: &[u32],
+    instances: &[u32],
+    turns: &[u32],
+    xs: &[f64],
+    ys: &[f64],
+    zs: &[f64],
     n: usize,
 )
-    requires { ⌜ (n ≤ mostLines) × (start + n * lineBytes ≤ length (now out)) ⌝ }
+    requires { ⌜ (n ≤ mostLines) × Roomy (columns (now ids) (now instances) (now turns) (now xs) (now ys) (now zs)) n
+        × (start + n * lineBytes ≤ length (now out)) ⌝ }
     ensures { λ _. ⌜ Put (now (out .entry)) start (columnsOut (record {
       ids = now (ids .entry);
       instances = now (instances .entry);

@@ -8,3 +8,4 @@ pub mod Larger
 pub mod Weak
 pub mod Numbers
 pub mod Whole
+pub mod Differences

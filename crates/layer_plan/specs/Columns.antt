@@ -8,7 +8,7 @@ use native.Mathlib.Omega.{arith}
 use lib.ListN.{length, getD, set, length-set}
 use lib.Seq.{getD-set-same, getD-set-other}
 use Rattle.floats.specs.Ops.{x, y, z}
-use Rattle.lists.specs.Table.{filled, filled-same}
+use Rattle.lists.specs.Table.{filled, filled-length, filled-same}
 use Rattle.lists.specs.Bools.{cond-keeps}
 use Rattle.domain.specs.Bounds.{mostBoxes}
 use Rattle.measures.specs.declared.Container.{Container}
@@ -21,6 +21,7 @@ use Rattle.layer_state.specs.Stand.{noStep}
 use Rattle.layer_fill.specs.declared.LayerFill.{LayerFill}
 use Rattle.layer_fill.specs.Fill.{noLines, empty, lineOf, pushed, took}
 use Rattle.sheet.specs.Columns.{Columns, idOf, instanceOf, orientationOf, xOf, yOf, zOf}
+use Rattle.plan_sheet.specs.Room.{AsLong}
 use Rattle.layer_plan.specs.Offers.{Offer}
 use Rattle.layer_plan.specs.Run.{stepBy, offered, runFrom, countAfter}
 
@@ -56,6 +57,23 @@ putIn s id instance n c =
     c
 
 -- ---- laws
+
+-- showing a fill keeps the lengths of the columns
+column-length : {A : Type 0} (part : Line → A) (old : List A) (f : LayerFill) → length (column part old f) ≡ length old
+unfolding column
+column-length part old f = filled-length old (λ i. part (getD (f .lines) i noLine)) (f .count)
+
+pub shown-alike : (old new : Columns) (f : LayerFill) → new ≡ shownIn old f → AsLong old new
+shown-alike old new f e =
+    rw e
+    (record {
+      ids = column-length idOf (old .ids) f;
+      instances = column-length instanceOf (old .instances) f;
+      turns = column-length orientationOf (old .turns) f;
+      xs = column-length xOf (old .xs) f;
+      ys = column-length yOf (old .ys) f;
+      zs = column-length zOf (old .zs) f;
+    })
 
 -- a new fill has no line
 pub shown-none : (old : Columns) (f : LayerFill) → f .count ≡ 0 → old ≡ shownIn old f

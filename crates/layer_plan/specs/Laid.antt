@@ -1,9 +1,9 @@
 -- RULES: Plans. What the plan of a fill holds, and how a call that lays it into columns ends.
-use mathlib.Core.Path.{_≡_, sym, _∙_}
+use mathlib.Core.Path.{_≡_, sym, ap, _∙_}
 use mathlib.Core.List.{List}
 use Prim.Native.Nat.{ℕ, _≤_}
 use native.Mathlib.Omega.{arith}
-use borrow.Author.Tests.{eq-eqb, ne-eqb, le-ltb}
+use borrow.Author.Tests.{eq-eqb, ne-eqb}
 use Rattle.domain.specs.Bounds.{mostKinds, mostLines}
 use Rattle.measures.specs.declared.Kind.{Kind}
 use Rattle.sheet.specs.declared.Line.{Line}
@@ -12,7 +12,7 @@ use Rattle.sheet.specs.Sheets.{sheetRefusal}
 use Rattle.sheet.specs.Accepted.{accepted}
 use Rattle.file_read.specs.Reading.{sheetOf, refusalOf}
 use Rattle.file_read.specs.Refusal.{sheet-sound}
-use Rattle.plan_unplaced.specs.Left.{leftOf, left-fair}
+use Rattle.plan_unplaced.specs.Left.{by-fair}
 use Rattle.plan_sheet.specs.declared.Told.{Told}
 use Rattle.plan_sheet.specs.Boxes.{smaller}
 use Rattle.plan_sheet.specs.Plans.{Plan, refusedPlan, leftBy, plannedOf}
@@ -40,16 +40,14 @@ pub record Made (p : Plan) (f : LayerFill) (n : ℕ) : Type 0 where
   pub lines-are : p .lines ≡ f .lines
   pub placed-are : p .placed ≡ f .count
 
-left-accepted : (kinds : List Kind) (m : ℕ) (ids instances : List ℕ) (n : ℕ) → m ≤ mostKinds → n ≤ mostLines
-    → leftOf kinds m ids instances n .refused ≡ 0
-unfolding leftOf
-left-accepted kinds m ids instances n a b = rw (le-ltb mostKinds m a, le-ltb mostLines n b) (left-fair kinds _ m)
-
 pub plan-made : (kinds : List Kind) (m : ℕ) (f : LayerFill) (n : ℕ) → m ≤ mostKinds → f .count ≤ mostLines → Made (planFrom kinds m f n) f n
 unfolding planFrom plannedOf
 plan-made kinds m f n a b =
-    let e = eq-eqb (leftBy kinds m (f .lines) (f .count) .refused) 0 (left-accepted kinds m _ _ (f .count) a b) in
+    let e = eq-eqb (leftBy kinds m (f .lines) (f .count) .refused) 0 (by-fair kinds m (f .lines) (f .count) a b) in
     record { told-is = rw e; lines-are = rw e; placed-are = rw e }
+
+pub made-considered : {p : Plan} {f : LayerFill} {n : ℕ} → Made p f n → p .considered ≡ n
+made-considered m = ap (λ (t : Told). t .considered) (m .told-is)
 
 -- ---- how a call ends
 

@@ -4,6 +4,7 @@ ghost use Rattle.file_read.specs.Reading.{sheetOf};
 ghost use Rattle.layer_plan.specs.Offers.{itemOffer};
 ghost use Rattle.sheet.specs.Columns.{columns};
 ghost use Rattle.plan_sheet.specs.Laid.{Lays};
+ghost use Rattle.plan_sheet.specs.Room.{fitting, Roomy};
 ghost use Rattle.layer_plan.specs.Laid.{Shows};
 ghost use Rattle.layer_plan.specs.Items.{Fit, Tries, fillOver, itemsIn};
 use crate::lay::put_line;
@@ -60,14 +61,14 @@ fn lay_each(
     records: &[u32],
     items: &[u32],
     n: usize,
-    ids: &mut [u32; domain::MOST_LINES],
-    instances: &mut [u32; domain::MOST_LINES],
-    turns: &mut [u32; domain::MOST_LINES],
-    xs: &mut [f64; domain::MOST_LINES],
-    ys: &mut [f64; domain::MOST_LINES],
-    zs: &mut [f64; domain::MOST_LINES],
+    ids: &mut [u32],
+    instances: &mut [u32],
+    turns: &mut [u32],
+    xs: &mut [f64],
+    ys: &mut [f64],
+    zs: &mut [f64],
 ) -> Told
-    requires { ⌜ Fit (now f) (now records) (now items) n ⌝ }
+    requires { ⌜ Fit (now f) (now records) (now items) n × Roomy (columns (now ids) (now instances) (now turns) (now xs) (now ys) (now zs)) n ⌝ }
     ensures { λ r. ⌜ Shows (fillOver (sheetOf (now (f .entry))) (now (records .entry)) (now (items .entry)) n) n r
         (columns (now (ids .entry)) (now (instances .entry)) (now (turns .entry)) (now (xs .entry)) (now (ys .entry)) (now (zs .entry)))
         (columns (now (ids .exit)) (now (instances .exit)) (now (turns .exit)) (now (xs .exit)) (now (ys .exit)) (now (zs .exit))) ⌝ }
@@ -93,20 +94,22 @@ fn lay_each(
 }
 
 // Items into lent columns, as far as `consider` goes: a cell of each for a line, the others as they were. Refused by 1 for the shape, 2 for too many items
-// or records, what else the file gets, 9 for a record of no kind of it.
+// or records, what else the file gets, 9 for a record of no kind of it, 6 for columns that lack a cell for an item considered.
 pub fn lay_items(
     order: &[u8],
     records: &[u32],
     items: &[u32],
     consider: u64,
-    ids: &mut [u32; domain::MOST_LINES],
-    instances: &mut [u32; domain::MOST_LINES],
-    turns: &mut [u32; domain::MOST_LINES],
-    xs: &mut [f64; domain::MOST_LINES],
-    ys: &mut [f64; domain::MOST_LINES],
-    zs: &mut [f64; domain::MOST_LINES],
+    ids: &mut [u32],
+    instances: &mut [u32],
+    turns: &mut [u32],
+    xs: &mut [f64],
+    ys: &mut [f64],
+    zs: &mut [f64],
 ) -> Told
-    ensures { λ r. ⌜ Lays (itemsIn (now (order .entry)) (now (records .entry)) (now (items .entry)) consider) r
+    ensures { λ r. ⌜ Lays
+        (fitting (columns (now (ids .entry)) (now (instances .entry)) (now (turns .entry)) (now (xs .entry)) (now (ys .entry)) (now (zs .entry)))
+        (itemsIn (now (order .entry)) (now (records .entry)) (now (items .entry)) consider)) r
         (columns (now (ids .entry)) (now (instances .entry)) (now (turns .entry)) (now (xs .entry)) (now (ys .entry)) (now (zs .entry)))
         (columns (now (ids .exit)) (now (instances .exit)) (now (turns .exit)) (now (xs .exit)) (now (ys .exit)) (now (zs .exit))) ⌝ }
 {
@@ -122,5 +125,8 @@ pub fn lay_items(
         return refused_told(9);
     }
     let n = plan_sheet::smaller(consider, many as u64) as usize;
+    if !sheet::has_room(ids, instances, turns, xs, ys, zs, n) {
+        return refused_told(6);
+    }
     lay_each(order, records, items, n, ids, instances, turns, xs, ys, zs)
 }

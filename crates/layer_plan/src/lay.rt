@@ -1,7 +1,7 @@
 // The step of a run for one box: its line goes into lent columns behind the lines before it.
-ghost use Prim.Native.Nat.{_<_};
-ghost use Rattle.domain.specs.Bounds.{mostLines};
+ghost use Prim.Native.Nat.{_+_};
 ghost use Rattle.sheet.specs.Columns.{columns};
+ghost use Rattle.plan_sheet.specs.Room.{Roomy};
 ghost use Rattle.layer_plan.specs.Columns.{Puts};
 use layer_state::Step;
 
@@ -11,14 +11,14 @@ pub(crate) fn put_line(
     id: u32,
     instance: u32,
     n: usize,
-    ids: &mut [u32; domain::MOST_LINES],
-    instances: &mut [u32; domain::MOST_LINES],
-    turns: &mut [u32; domain::MOST_LINES],
-    xs: &mut [f64; domain::MOST_LINES],
-    ys: &mut [f64; domain::MOST_LINES],
-    zs: &mut [f64; domain::MOST_LINES],
+    ids: &mut [u32],
+    instances: &mut [u32],
+    turns: &mut [u32],
+    xs: &mut [f64],
+    ys: &mut [f64],
+    zs: &mut [f64],
 ) -> usize
-    requires { ⌜ n < mostLines ⌝ }
+    requires { ⌜ Roomy (columns (now ids) (now instances) (now turns) (now xs) (now ys) (now zs)) (n + 1) ⌝ }
     ensures { λ r. ⌜ Puts s id instance n r
         (columns (now (ids .entry)) (now (instances .entry)) (now (turns .entry)) (now (xs .entry)) (now (ys .entry)) (now (zs .entry)))
         (columns (now (ids .exit)) (now (instances .exit)) (now (turns .exit)) (now (xs .exit)) (now (ys .exit)) (now (zs .exit))) ⌝ }

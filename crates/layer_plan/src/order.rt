@@ -3,6 +3,7 @@ ghost use Rattle.file_read.specs.Reading.{sheetOf};
 ghost use Rattle.plan_boxes.specs.Files.{InFile};
 ghost use Rattle.sheet.specs.Columns.{columns};
 ghost use Rattle.plan_sheet.specs.Laid.{planIn, Lays};
+ghost use Rattle.plan_sheet.specs.Room.{fitting, Roomy};
 ghost use Rattle.layer_plan.specs.Laid.{fillBy, Shows};
 ghost use Rattle.layer_plan.specs.Fills.{layerFillOf};
 use crate::lay::put_line;
@@ -15,14 +16,14 @@ use plan_sheet::Told;
 fn lay_boxes(
     f: &[u8],
     n: usize,
-    ids: &mut [u32; domain::MOST_LINES],
-    instances: &mut [u32; domain::MOST_LINES],
-    turns: &mut [u32; domain::MOST_LINES],
-    xs: &mut [f64; domain::MOST_LINES],
-    ys: &mut [f64; domain::MOST_LINES],
-    zs: &mut [f64; domain::MOST_LINES],
+    ids: &mut [u32],
+    instances: &mut [u32],
+    turns: &mut [u32],
+    xs: &mut [f64],
+    ys: &mut [f64],
+    zs: &mut [f64],
 ) -> Told
-    requires { ⌜ InFile (now f) n ⌝ }
+    requires { ⌜ InFile (now f) n × Roomy (columns (now ids) (now instances) (now turns) (now xs) (now ys) (now zs)) n ⌝ }
     ensures { λ r. ⌜ Shows (fillBy (sheetOf (now (f .entry))) n) n r
         (columns (now (ids .entry)) (now (instances .entry)) (now (turns .entry)) (now (xs .entry)) (now (ys .entry)) (now (zs .entry)))
         (columns (now (ids .exit)) (now (instances .exit)) (now (turns .exit)) (now (xs .exit)) (now (ys .exit)) (now (zs .exit))) ⌝ }
@@ -53,17 +54,20 @@ fn lay_boxes(
 }
 
 // The fill by layers of the order in a load file, as far as `consider` goes, into lent columns: a cell of each for a line, the others as they were.
+// Columns that lack a cell for a box considered get 6.
 pub fn lay_layers(
     order: &[u8],
     consider: u64,
-    ids: &mut [u32; domain::MOST_LINES],
-    instances: &mut [u32; domain::MOST_LINES],
-    turns: &mut [u32; domain::MOST_LINES],
-    xs: &mut [f64; domain::MOST_LINES],
-    ys: &mut [f64; domain::MOST_LINES],
-    zs: &mut [f64; domain::MOST_LINES],
+    ids: &mut [u32],
+    instances: &mut [u32],
+    turns: &mut [u32],
+    xs: &mut [f64],
+    ys: &mut [f64],
+    zs: &mut [f64],
 ) -> Told
-    ensures { λ r. ⌜ Lays (planIn layerFillOf (now (order .entry)) consider) r
+    ensures { λ r. ⌜ Lays
+        (fitting (columns (now (ids .entry)) (now (instances .entry)) (now (turns .entry)) (now (xs .entry)) (now (ys .entry)) (now (zs .entry)))
+        (planIn layerFillOf (now (order .entry)) consider)) r
         (columns (now (ids .entry)) (now (instances .entry)) (now (turns .entry)) (now (xs .entry)) (now (ys .entry)) (now (zs .entry)))
         (columns (now (ids .exit)) (now (instances .exit)) (now (turns .exit)) (now (xs .exit)) (now (ys .exit)) (now (zs .exit))) ⌝ }
 {
@@ -71,6 +75,9 @@ pub fn lay_layers(
     if a.refused != 0 {
         return plan_sheet::refused_told(a.refused);
     }
-    let n = plan_sheet::smaller(consider, plan_boxes::boxes_of(order, a.kinds));
-    lay_boxes(order, n as usize, ids, instances, turns, xs, ys, zs)
+    let n = plan_sheet::smaller(consider, plan_boxes::boxes_of(order, a.kinds)) as usize;
+    if !sheet::has_room(ids, instances, turns, xs, ys, zs, n) {
+        return plan_sheet::refused_told(6);
+    }
+    lay_boxes(order, n, ids, instances, turns, xs, ys, zs)
 }

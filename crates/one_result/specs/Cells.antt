@@ -5,12 +5,14 @@ use denote.Ref.{now}
 use Rattle.one_result.specs.Law.{World, Settles, nothing, plain, told}
 use Rattle.check_words.proofs.put_if as put-if
 use Rattle.check_words.proofs.box_of as box-of
+use Rattle.check_words.proofs.put_box as put-box
 use mathlib.Core.Path.{_≡_, sym, _∙_}
 use mathlib.Core.Bool.{Bool, true, false}
 use mathlib.Core.List.{List, [], _∷_}
 use Prim.Native.Nat.{ℕ}
 use borrow.Author.Tests.{ltb-true, ltb-false}
 use lib.Dec.{ltb}
+use Rattle.check_words.specs.Corners.{boxIn}
 use Rattle.check_words.specs.Words.{onlyIf}
 use Rattle.check_words.specs.Wrote.{Wrote, Given, mostWords}
 
@@ -36,3 +38,7 @@ module _ {M : Type 1} (𝓤 : URA M) (w : World 𝓤) where
 
   pub box-of-one : (κs : _) (args : _) → Settles 𝓤 (box-of.clauses 𝓤 (w .heap) (w .atoms) (w .mem) (w .run) κs args) nothing
   box-of-one κs args = plain 𝓤 _ _ (λ _. refl) (λ _ _ _. refl)
+
+  pub put-box-one : (κs : _) (args : _) → Settles 𝓤 (put-box.clauses 𝓤 (w .heap) (w .atoms) (w .mem) (w .run) κs args) (λ e. now (e .0))
+  put-box-one κs args =
+      told 𝓤 _ _ (λ r x. x ≡ boxIn (now (args .0)) (args .1 .0) (args .1 .1 .0)) (λ _. refl) (λ _ _ _. refl) (λ r s x y p q. (refl, p ∙ sym q))

@@ -8,6 +8,7 @@ use Rattle.sheet.proofs.is_among as is-among
 use Rattle.sheet.proofs.sheet_refusal as sheet-refusal
 use Rattle.sheet.proofs.blank_kind as blank-kind
 use Rattle.sheet.proofs.blank_line as blank-line
+use Rattle.sheet.proofs.has_room as has-room
 
 module _ {M : Type 1} (𝓤 : URA M) (w : World 𝓤) where
   pub empty-sheet-one : (κs : _) (args : _) → Settles 𝓤 (empty-sheet.clauses 𝓤 (w .heap) (w .atoms) (w .mem) (w .run) κs args) nothing
@@ -27,3 +28,6 @@ module _ {M : Type 1} (𝓤 : URA M) (w : World 𝓤) where
 
   pub blank-line-one : (κs : _) (args : _) → Settles 𝓤 (blank-line.clauses 𝓤 (w .heap) (w .atoms) (w .mem) (w .run) κs args) nothing
   blank-line-one κs args = plain 𝓤 _ _ (λ _. refl) (λ _ _ _. refl)
+
+  pub has-room-one : (κs : _) (args : _) → Settles 𝓤 (has-room.clauses 𝓤 (w .heap) (w .atoms) (w .mem) (w .run) κs args) nothing
+  has-room-one κs args = plain 𝓤 _ _ (λ _. refl) (λ _ _ _. refl)

@@ -17,10 +17,10 @@ use Rattle.sheet.specs.Sheets.{noKind, noLine, boxesIn, lineFault, lineFaultIn,
 use Rattle.sheet.specs.Accepted.{Accepted, accepted}
 use Rattle.plan_boxes.specs.Turns.{turnOf, turn-right}
 use Rattle.plan_unplaced.specs.declared.Left.{Left}
-use Rattle.plan_unplaced.specs.Left.{leftAfter, flagsOf, leftOf, left-few, left-fair}
+use Rattle.plan_unplaced.specs.Left.{leftAfter, flagsOf, left-few, left-fair, by-made}
 use Rattle.plan_unplaced.specs.Short.{namesOf}
 use Rattle.plan_unplaced.specs.Anew.{anew-refusal}
-use Rattle.plan_sheet.specs.Plans.{Plan, blankLine, leftBy, plannedOf, planRefusal}
+use Rattle.plan_sheet.specs.Plans.{Plan, blankLine, plannedOf, planRefusal}
 use Rattle.plan_sheet.specs.Planned.{widened, plannedSheet, sheetFrom}
 use Rattle.point_stow.specs.Stow.{Stowed}
 use Rattle.point_state.specs.Fresh.{freshOf}
@@ -50,17 +50,12 @@ pub record Holds (p : Plan) (lines : List Line) (n : ℕ) : Type 0 where
   pub lines-are : p .lines ≡ lines
   pub ids-few : p .unplaced ≤ mostKinds
 
-pub left-is : (kinds : List Kind) (m : ℕ) (lines : List Line) (n : ℕ) → m ≤ mostKinds → n ≤ mostLines
-    → leftBy kinds m lines n ≡ leftAfter kinds (flagsOf kinds (namesOf lines mostLines .ids) (namesOf lines mostLines .instances) n m) m
-unfolding leftOf
-left-is kinds m lines n h k = rw (le-ltb mostKinds m h, le-ltb mostLines n k)
-
 pub planned-holds : (kinds : List Kind) (m : ℕ) (lines : List Line) (n considered : ℕ) (u : Float) → m ≤ mostKinds → n ≤ mostLines
     → Holds (plannedOf kinds m lines n considered u) lines n
 unfolding plannedOf
 planned-holds kinds m lines n considered u h k =
     let flags = flagsOf kinds (namesOf lines mostLines .ids) (namesOf lines mostLines .instances) n m in
-    let e = left-is kinds m lines n h k in
+    let e = by-made kinds m lines n h k in
     let f = left-few kinds flags m in
     rw (e, left-fair kinds flags m) (record { not-refused = refl; placed-are = refl; lines-are = refl; ids-few = omega arith })
 
@@ -77,7 +72,7 @@ planned-lists : (kinds : List Kind) (m : ℕ) (lines : List Line) (n considered 
     → Lists kinds m (plannedOf kinds m lines n considered u)
 unfolding plannedOf
 planned-lists kinds m lines n considered u h k =
-    rw (left-is kinds m lines n h k, left-fair kinds (flagsOf kinds (namesOf lines mostLines .ids) (namesOf lines mostLines .instances) n m) m)
+    rw (by-made kinds m lines n h k, left-fair kinds (flagsOf kinds (namesOf lines mostLines .ids) (namesOf lines mostLines .instances) n m) m)
     (record { lines-few = k; count-is = refl; ids-are = refl })
 
 -- ---- the sheet of such a plan

@@ -2,10 +2,8 @@
 use mathlib.Core.Path.{_≡_, refl, sym, ap, _∙_}
 use mathlib.Core.List.{List}
 use Prim.Native.Nat.{ℕ, _<_, _≤_}
-use native.Mathlib.Omega.{arith}
-use lib.ListN.{length}
 use lib.Ieee.{nan}
-use Rattle.domain.specs.Bounds.{mostKinds, mostLines}
+use Rattle.domain.specs.Bounds.{mostKinds}
 use Rattle.sheet.specs.declared.Counts.{Counts}
 use Rattle.sheet.specs.declared.Line.{Line}
 use Rattle.sheet.specs.declared.Sheet.{Sheet}
@@ -16,13 +14,14 @@ use Rattle.file_read.specs.Reading.{sheetOf, refusalOf}
 use Rattle.file_read.specs.Records.{sectionsOf, bounds, right-is, right-says, many-is}
 use Rattle.file_accept.specs.Accept.{readable}
 use Rattle.plan_unplaced.specs.declared.Left.{Left}
-use Rattle.plan_unplaced.specs.Left.{leftOf}
+use Rattle.plan_unplaced.specs.Left.{leftOf, by-made}
 use Rattle.plan_unplaced.specs.InFile.{kindsIn, kinds-in-is}
 use Rattle.plan_sheet.specs.declared.Told.{Told}
 use Rattle.plan_sheet.specs.Plans.{Plan, leftBy}
 use Rattle.plan_sheet.specs.Laid.{toldOf, placedAt, laidIn}
+use Rattle.plan_sheet.specs.Room.{Roomy}
 use Rattle.plan_sheet.specs.LaidLaws.{laid-at, left-laid}
-use Rattle.plan_laws.specs.Accepted.{Lists, leftIn, left-is}
+use Rattle.plan_laws.specs.Accepted.{Lists, leftIn}
 
 -- the ids of what the lines in the columns leave of the order's kinds
 unfoldable pub laidLeft : List ℕ → Told → Columns → Left
@@ -33,35 +32,27 @@ pub left-made : (f : List ℕ) (t : Told) (c : Columns) (s : Sections) (l : Left
 unfolding laidLeft
 left-made f t c s l e h = rw e at h
 
--- columns of the length that they have
-pub record Long (c : Columns) : Type 0 where
-  pub ids-long : length (c .ids) ≡ mostLines
-  pub instances-long : length (c .instances) ≡ mostLines
-  pub turns-long : length (c .turns) ≡ mostLines
-  pub xs-long : length (c .xs) ≡ mostLines
-  pub ys-long : length (c .ys) ≡ mostLines
-  pub zs-long : length (c .zs) ≡ mostLines
-
 -- the line that six columns have of a line: all but its case
 abbrev pub shownOf : Line → Line
 shownOf l = lineFor (idOf l) (instanceOf l) (orientationOf l) (xOf l) (yOf l) (zOf l)
 
-pub line-laid : (p : Plan) (old : Columns) → Long old → p .placed ≤ mostLines → (i : ℕ) → i < p .placed
+pub line-laid : (p : Plan) (old : Columns) → Roomy old (p .placed) → (i : ℕ) → i < p .placed
     → columnLine (laidIn old p) i ≡ shownOf (placedAt p i)
-line-laid p old long few i l =
+line-laid p old room i l =
     rw (
-      laid-at idOf (old .ids) p i 0 (let h = long .ids-long in omega arith) l,
-      laid-at instanceOf (old .instances) p i 0 (let h = long .instances-long in omega arith) l,
-      laid-at orientationOf (old .turns) p i 0 (let h = long .turns-long in omega arith) l,
-      laid-at xOf (old .xs) p i nan (let h = long .xs-long in omega arith) l,
-      laid-at yOf (old .ys) p i nan (let h = long .ys-long in omega arith) l,
-      laid-at zOf (old .zs) p i nan (let h = long .zs-long in omega arith) l,
+      laid-at idOf (old .ids) p i 0 (room .ids) l,
+      laid-at instanceOf (old .instances) p i 0 (room .instances) l,
+      laid-at orientationOf (old .turns) p i 0 (room .turns) l,
+      laid-at xOf (old .xs) p i nan (room .xs) l,
+      laid-at yOf (old .ys) p i nan (room .ys) l,
+      laid-at zOf (old .zs) p i nan (room .zs) l,
     )
 
 pub sections-are : (f : List ℕ) → refusalOf f ≡ 0 → sectionsOf f .many ≡ countsOf f
 sections-are f z = right-says f (sectionsOf f) refl (right-is f ∙ readable f z .shape) .many-are
 
-module _ (f : List ℕ) (z : refusalOf f ≡ 0) (p : Plan) (lists : Lists (sheetOf f .kinds) (sheetOf f .many .kinds) p) (old : Columns) (long : Long old) where
+module _ (f : List ℕ) (z : refusalOf f ≡ 0) (p : Plan) (lists : Lists (sheetOf f .kinds) (sheetOf f .many .kinds) p) (old : Columns)
+    (room : Roomy old (p .placed)) where
   abbrev order : Sheet
   order = sheetOf f
 
@@ -75,11 +66,12 @@ module _ (f : List ℕ) (z : refusalOf f ≡ 0) (p : Plan) (lists : Lists (sheet
   unfolding laidLeft
   left-by =
       rw (sections-are f z, kinds-in-is f (readable f z))
-      (left-laid (order .kinds) (countsOf f .kinds) p (old .ids) (old .instances) (lists .lines-few) (long .ids-long) (long .instances-long))
+      (left-laid (order .kinds) (countsOf f .kinds) p (old .ids) (old .instances) (lists .lines-few)
+      (record { ids-long = room .ids; instances-long = room .instances }))
 
   left-in : left ≡ leftIn (order .kinds) (order .many .kinds) (p .lines) (p .placed)
   left-in =
-      left-by ∙ left-is (order .kinds) (countsOf f .kinds) (p .lines) (p .placed) kinds-few (lists .lines-few)
+      left-by ∙ by-made (order .kinds) (countsOf f .kinds) (p .lines) (p .placed) kinds-few (lists .lines-few)
       ∙ ap (λ (m : Counts). leftIn (order .kinds) (m .kinds) (p .lines) (p .placed)) (many-is f)
 
   pub count-is : left .count ≡ p .unplaced

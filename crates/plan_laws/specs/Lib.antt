@@ -6,5 +6,6 @@ pub mod Points
 pub mod Accepted
 pub mod Bins
 pub mod Laid
+pub mod Fits
 pub mod Listed
 pub mod NoneLost

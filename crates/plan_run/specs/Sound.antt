@@ -9,6 +9,7 @@ use lib.Dec.{eqb}
 use lib.ListN.{length, drop}
 use Rattle.lists.specs.Below.{all-same}
 use Rattle.lists.specs.Rows.{wrote}
+use Rattle.domain.specs.Bounds.{mostLines}
 use Rattle.domain.specs.Refusals.{orElse}
 use Rattle.sheet.specs.declared.Sheet.{Sheet}
 use Rattle.sheet.specs.Sheets.{sheetRefusal}
@@ -19,14 +20,17 @@ use Rattle.file_read.specs.Refusal.{sheet-decides, sheet-sound}
 use Rattle.plan_sheet.specs.declared.Told.{Told}
 use Rattle.plan_sheet.specs.declared.Packed.{Packed}
 use Rattle.plan_sheet.specs.Plans.{Plan, refusedPlan, planRefusal}
-use Rattle.plan_sheet.specs.Columns.{planBy, rowBy, words-by}
+use Rattle.plan_sheet.specs.Columns.{planBy, by-roomy, rowBy, words-by}
+use Rattle.plan_sheet.specs.Room.{fitting, Roomy}
+use Rattle.plan_sheet.specs.LaidLaws.{laid-roomy}
 use Rattle.plan_sheet.specs.Hand.{wordsOf, lineWords, handRefusal, handedOf, slotsOf}
 use Rattle.plan_sheet.specs.Laid.{planIn, toldOf, laidIn, Lays}
 use Rattle.point_run.specs.Runs.{epPackingOf}
 use Rattle.layer_plan.specs.Fills.{layerFillOf, itemsRefusal, placeItemsOf, items-right}
 use Rattle.layer_plan.specs.Items.{itemsIn}
 use Rattle.plan_laws.specs.Accepted.{Lists, points-lists, layers-lists, items-lists}
-use Rattle.plan_laws.specs.Laid.{Long, laidLeft, line-laid, count-is, ids-are}
+use Rattle.plan_laws.specs.Laid.{laidLeft, line-laid, count-is, ids-are}
+use Rattle.plan_laws.specs.Fits.{Modest, fits-long, long-room}
 use Rattle.plan_run.specs.Packs.{Packs, laidPlan}
 
 -- a plan of the order in a load file: the file is accepted, and the unplaced list is what the plan's lines leave
@@ -42,18 +46,24 @@ unfolding handRefusal planRefusal orElse
 own-first zero placed unplaced room n = absurd (n refl)
 own-first (suc r) placed unplaced room n = refl
 
-module _ (f : List ℕ) (p : Plan) (old : Columns) (long : Long old) where
+module _ (f : List ℕ) (p : Plan) (old : Columns) (room : Roomy old (p .placed)) where
   abbrev out : Plan
   out = laidPlan f (toldOf p) (laidIn old p)
 
+  -- the columns have a cell for each line, so it is refused as the plan is
+  own-refusal : out .refused ≡ p .refused
+  unfolding laidPlan
+  own-refusal = by-roomy (toldOf p) (laidLeft f (toldOf p) (laidIn old p)) (laidIn old p) (laid-roomy old p (p .placed) room)
+
   -- a refused plan
   module _ (refused : p .refused ≡ 0 → ⊥) where
-    answer-refused : (room : ℕ) → handedOf out room ≡ handedOf p room
+    answer-refused : (lent : ℕ) → handedOf out lent ≡ handedOf p lent
     unfolding handedOf laidPlan planBy
-    answer-refused room =
+    answer-refused lent =
         rw (
-          own-first (p .refused) (p .placed) (laidLeft f (toldOf p) (laidIn old p) .count) room refused,
-          own-first (p .refused) (p .placed) (p .unplaced) room refused,
+          own-refusal,
+          own-first (p .refused) (p .placed) (laidLeft f (toldOf p) (laidIn old p) .count) lent refused,
+          own-first (p .refused) (p .placed) (p .unplaced) lent refused,
           ne-eqb (p .refused) 0 refused,
         )
 
@@ -61,6 +71,7 @@ module _ (f : List ℕ) (p : Plan) (old : Columns) (long : Long old) where
     unfolding slotsOf laidPlan planBy
     words-refused o =
         rw (
+          own-refusal,
           own-first (p .refused) (p .placed) (laidLeft f (toldOf p) (laidIn old p) .count) (length o) refused,
           own-first (p .refused) (p .placed) (p .unplaced) (length o) refused,
           ne-eqb (p .refused) 0 refused,
@@ -68,15 +79,15 @@ module _ (f : List ℕ) (p : Plan) (old : Columns) (long : Long old) where
 
   -- a plan that is made
   module _ (sound : Sound f p) where
-    answer-made : (room : ℕ) → handedOf out room ≡ handedOf p room
+    answer-made : (lent : ℕ) → handedOf out lent ≡ handedOf p lent
     unfolding handedOf laidPlan planBy
-    answer-made room =
-        rw (count-is f (sound .order-accepted) p (sound .lists) old long, ids-are f (sound .order-accepted) p (sound .lists) old long)
+    answer-made lent =
+        rw (own-refusal, count-is f (sound .order-accepted) p (sound .lists) old room, ids-are f (sound .order-accepted) p (sound .lists) old room)
 
     -- the words of line i, which do not tell its case
     row-is : (i : ℕ) → i < p .placed → rowBy (laidIn old p) i ≡ lineWords (p .lines) i
     unfolding rowBy lineWords
-    row-is i l = ap wordsOf (line-laid p old long (sound .lists .lines-few) i l)
+    row-is i l = ap wordsOf (line-laid p old room i l)
 
     rows-are : (o : List ℕ) → wrote (lineWords (out .lines)) 6 (p .placed) o ≡ wrote (lineWords (p .lines)) 6 (p .placed) o
     unfolding wrote laidPlan planBy
@@ -87,23 +98,29 @@ module _ (f : List ℕ) (p : Plan) (old : Columns) (long : Long old) where
     words-made : (o : List ℕ) → slotsOf out o ≡ slotsOf p o
     unfolding slotsOf laidPlan planBy
     words-made o =
-        rw (count-is f (sound .order-accepted) p (sound .lists) old long)
+        rw (own-refusal, count-is f (sound .order-accepted) p (sound .lists) old room)
         (ap (λ (w : List ℕ). cond (eqb (handRefusal (p .refused) (p .placed) (p .unplaced) (length o)) 0) w o) (rows-are o))
 
   module _ (sound : p .refused ≡ 0 → Sound f p) where
-    answer-same : (room : ℕ) (b : Bool) → eqb (p .refused) 0 ≡ b → handedOf out room ≡ handedOf p room
-    answer-same room true e = answer-made (sound (eqb-true (p .refused) 0 e)) room
-    answer-same room false e = answer-refused (eqb-false (p .refused) 0 e) room
+    answer-same : (lent : ℕ) (b : Bool) → eqb (p .refused) 0 ≡ b → handedOf out lent ≡ handedOf p lent
+    answer-same lent true e = answer-made (sound (eqb-true (p .refused) 0 e)) lent
+    answer-same lent false e = answer-refused (eqb-false (p .refused) 0 e) lent
 
     words-same : (o : List ℕ) (b : Bool) → eqb (p .refused) 0 ≡ b → slotsOf out o ≡ slotsOf p o
     words-same o true e = words-made (sound (eqb-true (p .refused) 0 e)) o
     words-same o false e = words-refused (eqb-false (p .refused) 0 e) o
 
-    pub packs : (t : Told) (c : Columns) (o : List ℕ) (r : Packed) (after : List ℕ) → Lays p t old c → Packs (laidPlan f t c) o r after → Packs p o r after
-    packs t c o r after l h =
+    packs-of : (t : Told) (c : Columns) (o : List ℕ) (r : Packed) (after : List ℕ) → Lays p t old c → Packs (laidPlan f t c) o r after → Packs p o r after
+    packs-of t c o r after l h =
         let a = rw (l .told-is, l .columns-are) at (h .answer-is) in
         let b = rw (l .told-is, l .columns-are) at (h .words-are) in
         record { answer-is = a ∙ answer-same (length o) _ refl; words-are = b ∙ words-same o _ refl }
+
+-- columns with a cell for each line that there may be
+pub packs : (f : List ℕ) (p : Plan) (old : Columns) → Roomy old mostLines → Modest p → (p .refused ≡ 0 → Sound f p)
+    → (t : Told) (c : Columns) (o : List ℕ) (r : Packed) (after : List ℕ) → Lays (fitting old p) t old c → Packs (laidPlan f t c) o r after → Packs p o r after
+packs f p old long modest sound t c o r after l h =
+    packs-of f p old (long-room old modest long) sound t c o r after (rw (fits-long old modest long) at l) h
 
 -- ---- the plans of the runs
 

@@ -13,12 +13,12 @@ use plan_sheet::Told;
 fn hand_laid(
     order: &[u8],
     told: Told,
-    ids: &[u32; domain::MOST_LINES],
-    instances: &[u32; domain::MOST_LINES],
-    turns: &[u32; domain::MOST_LINES],
-    xs: &[f64; domain::MOST_LINES],
-    ys: &[f64; domain::MOST_LINES],
-    zs: &[f64; domain::MOST_LINES],
+    ids: &[u32],
+    instances: &[u32],
+    turns: &[u32],
+    xs: &[f64],
+    ys: &[f64],
+    zs: &[f64],
     slots: &mut [u64],
 ) -> Packed
     ensures { λ r. ⌜ Packs (laidPlan (now (order .entry)) told

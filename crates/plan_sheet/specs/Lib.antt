@@ -7,3 +7,4 @@ pub mod Laid
 pub mod Refused
 pub mod Columns
 pub mod LaidLaws
+pub mod Room

@@ -2,11 +2,11 @@
 ghost use mathlib.Core.Path.{_≡_};
 ghost use Prim.Native.Nat.{_*_, _≤_};
 ghost use lib.ListN.{length};
-ghost use Rattle.domain.specs.Bounds.{mostLines};
 ghost use Rattle.lists.specs.Rows.{wrote};
 ghost use Rattle.sheet.specs.Columns.{columns, lineFor};
 ghost use Rattle.plan_sheet.specs.Columns.{rowBy, Handed};
 ghost use Rattle.plan_sheet.specs.Refused.{refusedTold};
+ghost use Rattle.plan_sheet.specs.Room.{Roomy};
 use crate::Packed;
 use crate::Told;
 use crate::WORDS;
@@ -44,15 +44,15 @@ fn line_for(id: u32, instance: u32, orientation: u32, x: f64, y: f64, z: f64) ->
 // The words of the first n lines, one line after the other. The words past them stay.
 fn put_columns(
     out: &mut [u64],
-    ids: &[u32; domain::MOST_LINES],
-    instances: &[u32; domain::MOST_LINES],
-    turns: &[u32; domain::MOST_LINES],
-    xs: &[f64; domain::MOST_LINES],
-    ys: &[f64; domain::MOST_LINES],
-    zs: &[f64; domain::MOST_LINES],
+    ids: &[u32],
+    instances: &[u32],
+    turns: &[u32],
+    xs: &[f64],
+    ys: &[f64],
+    zs: &[f64],
     n: usize,
 )
-    requires { ⌜ (n ≤ mostLines) × (n * 6 ≤ length (now out)) ⌝ }
+    requires { ⌜ Roomy (columns (now ids) (now instances) (now turns) (now xs) (now ys) (now zs)) n × (n * 6 ≤ length (now out)) ⌝ }
     ensures { λ _. ⌜ now (out .exit) ≡ wrote (rowBy (record {
       ids = now (ids .entry);
       instances = now (instances .entry);
@@ -70,16 +70,17 @@ fn put_columns(
     }
 }
 
-// Hands a plan out: the lines from the columns into lent words, six to a line, the rest as the answer. A refusal changes no word.
+// Hands a plan out: the lines from the columns into lent words, six to a line, the rest as the answer. More lines than the columns have are refused by 2,
+// as more lines than there may be are. A refusal changes no word.
 pub fn hand_columns(
     told: Told,
     left: Left,
-    ids: &[u32; domain::MOST_LINES],
-    instances: &[u32; domain::MOST_LINES],
-    turns: &[u32; domain::MOST_LINES],
-    xs: &[f64; domain::MOST_LINES],
-    ys: &[f64; domain::MOST_LINES],
-    zs: &[f64; domain::MOST_LINES],
+    ids: &[u32],
+    instances: &[u32],
+    turns: &[u32],
+    xs: &[f64],
+    ys: &[f64],
+    zs: &[f64],
     slots: &mut [u64],
 ) -> Packed
     ensures { λ r. ⌜ Handed told left (record {
@@ -91,7 +92,9 @@ pub fn hand_columns(
       zs = now (zs .entry);
     }) (now (slots .entry)) r (now (slots .exit)) ⌝ }
 {
-    let refused = hand_refusal(told.refused, told.placed, left.count, slots.len());
+    let fits = sheet::has_room(ids, instances, turns, xs, ys, zs, told.placed);
+    let own = domain::or_else(told.refused, domain::given(!fits, 2));
+    let refused = hand_refusal(own, told.placed, left.count, slots.len());
     if refused != 0 {
         return refused_pack(refused, told.placed);
     }

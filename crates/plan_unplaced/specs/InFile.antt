@@ -8,19 +8,19 @@ use native.Mathlib.Nat.{le-refl}
 use native.Mathlib.Omega.{arith}
 use borrow.Author.Tests.{eq-eqb, ne-eqb}
 use lib.Dec.{eqb}
-use lib.ListN.{getD, set, replicate}
-use Rattle.lists.specs.Table.{table, table-at, table-same, filled}
+use lib.ListN.{length, getD, set, replicate}
+use Rattle.lists.specs.Table.{table, table-at, table-length, table-same, filled}
 use Rattle.domain.specs.Bounds.{mostKinds, mostLines}
 use Rattle.measures.specs.declared.Kind.{Kind}
 use Rattle.sheet.specs.declared.Line.{Line}
 use Rattle.sheet.specs.Sheets.{noKind, noLine, blankKind}
 use Rattle.file_read.specs.Form.{countsOf}
-use Rattle.file_read.specs.Reading.{kindFrom, kindPlace, kindsOf, sheetOf, refusalOf}
+use Rattle.file_read.specs.Reading.{kindFrom, kindPlace, kindsBy, sheetOf, refusalOf}
 use Rattle.file_read.specs.Tables.{kinds-at}
 use Rattle.file_read.specs.Records.{kindIn, Readable, bounds, kind-is, many-is}
 use Rattle.plan_unplaced.specs.declared.Left.{Left}
 use Rattle.plan_unplaced.specs.Short.{idAt, instanceAt, namesOf}
-use Rattle.plan_unplaced.specs.Left.{noLeft, leftOf, unplacedOf}
+use Rattle.plan_unplaced.specs.Left.{noLeft, leftOf, unplacedOf, Reached, names-reached}
 use Rattle.plan_unplaced.specs.Same.{Agree, left-same}
 
 -- the first m kinds, blank past them
@@ -31,7 +31,7 @@ pub kind-in-at : (f : List ℕ) (m k : ℕ) → m ≤ mostKinds → k < m → ge
 kind-in-at f m k few l = table-at blankKind mostKinds (λ j. kindIn f j) m k noKind few l
 
 pub kinds-in-is : (f : List ℕ) → Readable f → kindsIn f (countsOf f .kinds) ≡ sheetOf f .kinds
-unfolding sheetOf kindsOf
+unfolding sheetOf kindsBy
 kinds-in-is f r =
     table-same blankKind mostKinds (λ k. kindIn f k) (λ k. kindFrom f (kindPlace k)) (countsOf f .kinds)
     (λ k l. kind-is f k r l ∙ kinds-at f (countsOf f .kinds) k (bounds f r .kinds) l)
@@ -47,16 +47,30 @@ pub record Names (lines : List Line) (n : ℕ) (ids₀ instances₀ ids instance
 
 -- ---- laws
 
+pub names-long : {lines : List Line} {n : ℕ} {ids instances : List ℕ} → Names lines n (replicate mostLines 0) (replicate mostLines 0) ids instances
+    → (length ids ≡ mostLines) × (length instances ≡ mostLines)
+names-long {lines} {n} h =
+    (rw (h .ids-are, table-length 0 mostLines (idAt lines) n), rw (h .instances-are, table-length 0 mostLines (instanceAt lines) n))
+
 pub unplaced-refused : (f : List ℕ) (r : ℕ) → refusalOf f ≡ r → (r ≡ 0 → ⊥) → noLeft r ≡ fileUnplaced f
 unfolding fileUnplaced
 unplaced-refused f r e n = rw (e, ne-eqb r 0 n)
 
 module _ (f : List ℕ) (z : refusalOf f ≡ 0) (m n : ℕ) (r : Readable f) (kinds-are : m ≡ countsOf f .kinds) (lines-are : n ≡ countsOf f .lines) where
+  few : n ≤ mostLines
+  few = rw lines-are (bounds f r .lines)
+
   -- a column of the lines has what the names of all lines have there
   agrees : (g : ℕ → ℕ) (column : List ℕ) → column ≡ filled (replicate mostLines 0) g n → Agree column (table 0 mostLines g mostLines) n
   agrees g column e j l =
-      let few : n ≤ mostLines = rw lines-are (bounds f r .lines) in
-      rw e (table-at 0 mostLines g n j 0 few l ∙ sym (table-at 0 mostLines g mostLines j 0 (le-refl mostLines) (omega arith)))
+      rw e (table-at 0 mostLines g n j 0 few l ∙ sym (table-at 0 mostLines g mostLines j 0 (le-refl mostLines) (let h = few in omega arith)))
+
+  reached : (ids instances : List ℕ) → Names (sheetOf f .lines) n (replicate mostLines 0) (replicate mostLines 0) ids instances → Reached ids instances n
+  reached ids instances h =
+      record {
+        ids-long = rw (names-long h .0) few;
+        instances-long = rw (names-long h .1) few;
+      }
 
   pub unplaced-is : (ids instances : List ℕ) → Names (sheetOf f .lines) n (replicate mostLines 0) (replicate mostLines 0) ids instances
       → leftOf (kindsIn f m) m ids instances n ≡ fileUnplaced f
@@ -64,7 +78,7 @@ module _ (f : List ℕ) (z : refusalOf f ≡ 0) (m n : ℕ) (r : Readable f) (ki
   unplaced-is ids instances h =
       let lines = sheetOf f .lines in
       left-same ids (table 0 mostLines (idAt lines) mostLines) instances (table 0 mostLines (instanceAt lines) mostLines) n (agrees _ ids (h .ids-are))
-      (agrees _ instances (h .instances-are)) (kindsIn f m) m
+      (agrees _ instances (h .instances-are)) (kindsIn f m) m (reached ids instances h) (names-reached lines mostLines n few)
       ∙ rw (eq-eqb (refusalOf f) 0 z, kinds-are, lines-are, kinds-in-is f r, ← (many-is f))
 
 -- one line more

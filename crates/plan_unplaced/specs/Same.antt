@@ -2,7 +2,8 @@
 use mathlib.Core.Path.{_≡_, refl}
 use mathlib.Core.List.{List}
 use Prim.Native.Nat.{ℕ, _<_}
-use lib.ListN.{getD}
+use borrow.Author.Tests.{le-ltb}
+use lib.ListN.{length, getD}
 use Rattle.lists.specs.Below.{any-same, sum-same}
 use Rattle.lists.specs.Table.{table-same}
 use Rattle.domain.specs.Bounds.{mostKinds}
@@ -10,7 +11,7 @@ use mathlib.Core.Bool.{false}
 use Rattle.measures.specs.declared.Kind.{Kind}
 use Rattle.sheet.specs.Sheets.{noKind}
 use Rattle.plan_unplaced.specs.Short.{places, isPlaced, onePlaced, distinctPlaced, isShort}
-use Rattle.plan_unplaced.specs.Left.{shortKind, flagsOf, leftOf}
+use Rattle.plan_unplaced.specs.Left.{shortKind, flagsOf, leftOf, Reached}
 
 -- entries below n agree
 abbrev pub Agree : List ℕ → List ℕ → ℕ → Type 0
@@ -27,7 +28,15 @@ module _ (ids ids′ instances instances′ : List ℕ) (n : ℕ) (h : Agree ids
       let id = getD kinds m noKind .id in
       rw (sum-same (onePlaced ids instances n id) (onePlaced ids′ instances′ n id) (getD kinds m noKind .quantity) (λ i _. rw (placed-same id i)))
 
-  pub left-same : (kinds : List Kind) (m : ℕ) → leftOf kinds m ids instances n ≡ leftOf kinds m ids′ instances′ n
+  -- where all have as many cells
+  pub left-same : (kinds : List Kind) (m : ℕ) → Reached ids instances n → Reached ids′ instances′ n
+      → leftOf kinds m ids instances n ≡ leftOf kinds m ids′ instances′ n
   unfolding leftOf
-  left-same kinds m =
-      rw (table-same false mostKinds (shortKind kinds ids instances n) (shortKind kinds ids′ instances′ n) m (λ j _. short-same kinds j))
+  left-same kinds m a b =
+      rw (
+        le-ltb (length ids) n (a .ids-long),
+        le-ltb (length instances) n (a .instances-long),
+        le-ltb (length ids′) n (b .ids-long),
+        le-ltb (length instances′) n (b .instances-long),
+        table-same false mostKinds (shortKind kinds ids instances n) (shortKind kinds ids′ instances′ n) m (λ j _. short-same kinds j),
+      )

@@ -4,7 +4,7 @@ ghost use mathlib.Core.Bool.{false};
 ghost use Prim.Native.Nat.{_≤_};
 ghost use Rattle.domain.specs.Bounds.{mostKinds, mostLines};
 ghost use Rattle.lists.specs.Table.{table};
-ghost use Rattle.plan_unplaced.specs.Left.{shortKind, leftAfter, leftOf};
+ghost use Rattle.plan_unplaced.specs.Left.{shortKind, leftAfter, leftOf, Reached};
 ghost use Rattle.file_read.specs.Reading.{sheetOf};
 ghost use Rattle.file_accept.specs.Accept.{Taken};
 ghost use Rattle.plan_unplaced.specs.InFile.{kindsIn, Names, fileUnplaced};
@@ -19,11 +19,11 @@ use file_read::records;
 fn flags_in(
     f: &[u8],
     m: usize,
-    ids: &[u32; domain::MOST_LINES],
-    instances: &[u32; domain::MOST_LINES],
+    ids: &[u32],
+    instances: &[u32],
     n: usize,
 ) -> [bool; domain::MOST_KINDS]
-    requires { ⌜ (m ≤ mostKinds) × (n ≤ mostLines) ⌝ }
+    requires { ⌜ (m ≤ mostKinds) × (n ≤ mostLines) × Reached (now ids) (now instances) n ⌝ }
     ensures { λ r. ⌜ r ≡ table false mostKinds (shortKind (kindsIn (now (f .entry)) m) (now (ids .entry)) (now (instances .entry)) n) m ⌝ }
 {
     let mut flags = [false; domain::MOST_KINDS];
@@ -52,17 +52,12 @@ fn listed_in(f: &[u8], m: usize, flags: &[bool; domain::MOST_KINDS]) -> Left
 }
 
 // The ids of the short ones of the first m kinds of a file, by n lines given as ids and instances. Refused by 2 for a count over its
-// bound. A kind that the bytes do not have says nothing.
-pub fn left_in(
-    f: &[u8],
-    m: usize,
-    ids: &[u32; domain::MOST_LINES],
-    instances: &[u32; domain::MOST_LINES],
-    n: usize,
-) -> Left
+// bound or over a column's cells. A kind that the bytes do not have says nothing.
+pub fn left_in(f: &[u8], m: usize, ids: &[u32], instances: &[u32], n: usize) -> Left
     ensures { λ r. ⌜ r ≡ leftOf (kindsIn (now (f .entry)) m) m (now (ids .entry)) (now (instances .entry)) n ⌝ }
 {
-    if (m > domain::MOST_KINDS) | (n > domain::MOST_LINES) {
+    let over = (m > domain::MOST_KINDS) | (n > domain::MOST_LINES);
+    if over | ((n > ids.len()) | (n > instances.len())) {
         return no_left(2);
     }
     let flags = flags_in(f, m, ids, instances, n);

@@ -3,10 +3,10 @@
 ghost use mathlib.Core.Path.{_≡_};
 ghost use mathlib.Core.Bool.{true, false};
 ghost use Prim.Native.Nat.{_≤_, _<_};
-ghost use lib.ListN.{getD, set};
+ghost use lib.ListN.{length, getD, set};
 ghost use Rattle.domain.specs.Bounds.{mostKinds, mostLines};
 ghost use Rattle.plan_unplaced.specs.Short.{distinctPlaced, isShort};
-ghost use Rattle.plan_unplaced.specs.Left.{pushIf, noLeft};
+ghost use Rattle.plan_unplaced.specs.Left.{pushIf, noLeft, Reached};
 ghost use Rattle.plan_unplaced.specs.Marks.{markOf, freshOf, noMarks, Marked, Strangers, Adds};
 
 mod in_file; // in_file.rt: the list of an order in a load file
@@ -65,8 +65,8 @@ fn no_marks() -> [bool; MARKS]
 }
 
 // Whether one of the lines from `from` up to `to` has the id: no branch, so that many are looked at together.
-fn some_named(ids: &[u32; domain::MOST_LINES], from: usize, to: usize, id: u32) -> bool
-    requires { ⌜ (from ≤ to) × (to ≤ mostLines) ⌝ }
+fn some_named(ids: &[u32], from: usize, to: usize, id: u32) -> bool
+    requires { ⌜ (from ≤ to) × (to ≤ length (now ids)) ⌝ }
     ensures { λ r. ⌜ (r ≡ false → Strangers (now (ids .entry)) id from to) ⌝ }
 {
     let mut named = false;
@@ -92,14 +92,14 @@ fn block_end(j: usize, n: usize) -> usize
 // Sets the marks of the lines from `from` up to `to`: how many were not set before.
 fn mark_lines(
     seen: &mut [bool; MARKS],
-    ids: &[u32; domain::MOST_LINES],
-    instances: &[u32; domain::MOST_LINES],
+    ids: &[u32],
+    instances: &[u32],
     from: usize,
     to: usize,
     id: u32,
     quantity: u32,
 ) -> usize
-    requires { ⌜ (from ≤ to) × (to ≤ mostLines) × (quantity ≤ mostLines) × Marked (now ids) (now instances) from id quantity (now seen) ⌝ }
+    requires { ⌜ (from ≤ to) × Reached (now ids) (now instances) to × (quantity ≤ mostLines) × Marked (now ids) (now instances) from id quantity (now seen) ⌝ }
     ensures { λ r. ⌜ Adds (now (ids .entry)) (now (instances .entry)) from to id quantity r (now (seen .exit)) ⌝ }
 {
     let mut count = 0;
@@ -113,14 +113,8 @@ fn mark_lines(
 
 // How many distinct instances of a kind, in range, the first n lines place. Once all are placed, no line adds one; lines of other kinds are passed over
 // a block at a time.
-fn distinct_placed(
-    ids: &[u32; domain::MOST_LINES],
-    instances: &[u32; domain::MOST_LINES],
-    n: usize,
-    id: u32,
-    quantity: u32,
-) -> usize
-    requires { ⌜ (n ≤ mostLines) × (quantity ≤ mostLines) ⌝ }
+fn distinct_placed(ids: &[u32], instances: &[u32], n: usize, id: u32, quantity: u32) -> usize
+    requires { ⌜ (n ≤ mostLines) × Reached (now ids) (now instances) n × (quantity ≤ mostLines) ⌝ }
     ensures { λ r. ⌜ r ≡ distinctPlaced (now (ids .entry)) (now (instances .entry)) n id quantity ⌝ }
 {
     let most = quantity as usize;
@@ -138,14 +132,8 @@ fn distinct_placed(
 }
 
 // Whether fewer are placed than there are. More than there can be lines are never all placed.
-fn is_short(
-    ids: &[u32; domain::MOST_LINES],
-    instances: &[u32; domain::MOST_LINES],
-    n: usize,
-    id: u32,
-    quantity: u32,
-) -> bool
-    requires { ⌜ n ≤ mostLines ⌝ }
+fn is_short(ids: &[u32], instances: &[u32], n: usize, id: u32, quantity: u32) -> bool
+    requires { ⌜ (n ≤ mostLines) × Reached (now ids) (now instances) n ⌝ }
     ensures { λ r. ⌜ r ≡ isShort (now (ids .entry)) (now (instances .entry)) n id quantity ⌝ }
 {
     if quantity as usize > domain::MOST_LINES {

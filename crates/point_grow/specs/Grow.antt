@@ -1,21 +1,21 @@
 -- The state after a box has been placed: its point is gone, up to three new ones are stored, and the box stands. RULES: First placer: new points
-use mathlib.Core.Path.{_≡_}
+use mathlib.Core.Path.{_≡_, refl, sym, _∙_}
 use mathlib.Core.Bool.{Bool, true, false, not, cond, _&&_}
 use mathlib.Core.List.{List, [], _∷_}
-use Prim.Native.Nat.{ℕ, _+_, _-_, _*_, _<_, _≤_}
+use Prim.Native.Nat.{ℕ, _+_, _-_, _*_, _/_, _<_, _≤_}
 use native.Mathlib.Omega.{arith}
-use borrow.Author.Tests.{lt-ltb}
+use borrow.Author.Tests.{lt-ltb, le-ltb, ltb-true, ltb-false}
 use lib.Dec.{ltb}
-use lib.ListN.{set}
+use lib.ListN.{length, set}
 use lib.Ieee.{Float, lt}
 use Rattle.floats.specs.Ops.{x, y, z}
-use Rattle.domain.specs.Bounds.{mostBoxes}
+use Rattle.lists.specs.Bools.{cond-keeps}
 use Rattle.measures.specs.declared.Container.{Container}
 use Rattle.measures.specs.Asked.{askedOf}
 use Rattle.point_state.specs.declared.Label.{Label}
 use Rattle.point_state.specs.declared.ExtremePointSet.{ExtremePointSet}
 use Rattle.point_state.specs.All.{all}
-use Rattle.point_state.specs.Triples.{mostPoints, three, put3}
+use Rattle.point_state.specs.Triples.{three, put3, hasTriple, has-triple, put3-length}
 use Rattle.point_state.specs.Stores.{pointAt}
 use Rattle.point_fit.specs.Ends.{endsOf, pastOf, belowEnds, buries}
 use Rattle.point_grow.specs.declared.Corners.{Corners}
@@ -84,11 +84,11 @@ unfoldable pub stockBy : Container → List Float → ℕ → ℕ → List Float
 stockBy c boxes held live points k size =
     let at = three points k in grown (cornersOf c boxes held at size) at (dropped k (record { live = live; points = points }))
 
--- where there is no point k, or no room for what a box leaves, all stays
+-- where there is no point k, no room for two points more, or none for one box more, all stays
 unfoldable pub restockOf : Container → List Float → ℕ → ℕ → List Float → ℕ → List Float → Stock
 restockOf c boxes held live points k size =
     let same : Stock = record { live = live; points = points } in
-    cond (ltb k live) (cond (ltb live (mostPoints - 1)) (cond (ltb held mostBoxes) (stockBy c boxes held live points k size) same) same) same
+    cond (ltb k live) (cond (hasTriple points (live + 1)) (cond (hasTriple boxes (2 * held + 1)) (stockBy c boxes held live points k size) same) same) same
 
 abbrev pub stockOf : ExtremePointSet → ℕ → List Float → Stock
 stockOf s k size = stockBy (s .container) (s .boxes) (s .held) (s .live) (s .points) k size
@@ -99,7 +99,7 @@ putBox boxes n at size = put3 (put3 boxes (2 * n) at) (2 * n + 1) size
 
 -- past the store nothing is stored
 unfoldable pub boxIn : List Float → ℕ → List Float → List Float → List Float
-boxIn boxes n at size = cond (ltb n mostBoxes) (putBox boxes n at size) boxes
+boxIn boxes n at size = cond (hasTriple boxes (2 * n + 1)) (putBox boxes n at size) boxes
 
 -- a box of this label and these lengths placed at point k
 unfoldable pub afterBox : ExtremePointSet → ℕ → Label → List Float → ExtremePointSet
@@ -124,15 +124,24 @@ unfolding countWith
 count-with true n = record { low = omega arith; high = omega arith }
 count-with false n = record { low = omega arith; high = omega arith }
 
--- with such a point, and room
-pub restock-in : (c : Container) (boxes : List Float) (held live : ℕ) (points : List Float) (k : ℕ) (size : List Float) → k < live → live < mostPoints - 1
-    → held < mostBoxes → restockOf c boxes held live points k size ≡ stockBy c boxes held live points k size
-unfolding restockOf
-restock-in c boxes held live points k size h l r = rw (lt-ltb k live h, lt-ltb live (mostPoints - 1) l, lt-ltb held mostBoxes r)
+-- two triples more have room where the number of triples says so
+pub two-fit : (live cells : ℕ) → ltb (live + 1) (cells / 3) ≡ ltb (3 * (live + 1) + 2) cells
+two-fit live cells = go (ltb (live + 1) (cells / 3)) refl
+  where
+    go : (b : Bool) → ltb (live + 1) (cells / 3) ≡ b → b ≡ ltb (3 * (live + 1) + 2) cells
+    go true e = let h = ltb-true (live + 1) (cells / 3) e in sym (lt-ltb (3 * (live + 1) + 2) cells (omega arith))
+    go false e = let h = ltb-false (live + 1) (cells / 3) e in sym (le-ltb (3 * (live + 1) + 2) cells (omega arith))
 
-pub box-in : (boxes : List Float) (n : ℕ) (at size : List Float) → n < mostBoxes → boxIn boxes n at size ≡ putBox boxes n at size
+-- with such a point, and room
+pub restock-in : (c : Container) (boxes : List Float) (held live : ℕ) (points : List Float) (k : ℕ) (size : List Float) → k < live
+    → 3 * (live + 1) + 2 < length points → 3 * (2 * held + 1) + 2 < length boxes
+    → restockOf c boxes held live points k size ≡ stockBy c boxes held live points k size
+unfolding restockOf
+restock-in c boxes held live points k size h l r = rw (lt-ltb k live h, has-triple points (live + 1) l, has-triple boxes (2 * held + 1) r)
+
+pub box-in : (boxes : List Float) (n : ℕ) (at size : List Float) → 3 * (2 * n + 1) + 2 < length boxes → boxIn boxes n at size ≡ putBox boxes n at size
 unfolding boxIn
-box-in boxes n at size h = rw (lt-ltb n mostBoxes h)
+box-in boxes n at size h = rw (has-triple boxes (2 * n + 1) h)
 
 -- one point goes and at most three come
 pub stock-few : (s : ExtremePointSet) (k : ℕ) (size : List Float) → k < s .live → stockOf s k size .live ≤ s .live + 2
@@ -145,3 +154,17 @@ stock-few s k size l =
     let b₂ : Between n₁ n₂ (n₁ + 1) = count-with (new .alongy) n₁ in
     let b₃ : Between n₂ (countWith (new .alongz) n₂) (n₂ + 1) = count-with (new .alongz) n₂ in
     omega arith
+
+-- the stores keep their lengths
+pub with-long : (kept : Bool) (points : List Float) (n : ℕ) (at : List Float) → length (pointsWith kept points n at) ≡ length points
+unfolding pointsWith
+with-long kept points n at = cond-keeps (λ (l : List Float). length l ≡ length points) kept (put3-length points n at) refl
+
+pub stock-long : (c : Container) (boxes : List Float) (held live : ℕ) (points : List Float) (k : ℕ) (size : List Float)
+    → length (stockBy c boxes held live points k size .points) ≡ length points
+unfolding stockBy
+stock-long c boxes held live points k size = with-long _ _ _ _ ∙ (with-long _ _ _ _ ∙ (with-long _ _ _ _ ∙ put3-length points k _))
+
+pub box-long : (boxes : List Float) (n : ℕ) (at size : List Float) → length (putBox boxes n at size) ≡ length boxes
+unfolding putBox
+box-long boxes n at size = put3-length _ (2 * n + 1) size ∙ put3-length boxes (2 * n) at

@@ -2,8 +2,9 @@
 // `generate_new_eps`, `add_ep_if_valid`).
 ghost use mathlib.Core.Path.{_≡_};
 ghost use Prim.Native.Nat.{_+_, _*_, _≤_, _<_};
-ghost use Rattle.domain.specs.Bounds.{mostBoxes};
-ghost use Rattle.point_state.specs.Triples.{mostPoints, three};
+ghost use lib.Dec.{ltb};
+ghost use lib.ListN.{length};
+ghost use Rattle.point_state.specs.Triples.{three};
 ghost use Rattle.point_fit.specs.Ends.{buries};
 ghost use Rattle.point_grow.specs.Grow.{free, valid, cornersOf, added, grown, restockOf, boxIn};
 ghost use Rattle.point_grow.specs.Told.{Stocked};
@@ -12,8 +13,6 @@ use point_fit::below_ends;
 use point_fit::buries;
 use point_fit::ends_of;
 use point_fit::past_of;
-use point_state::CELLS;
-use point_state::POINTS;
 use point_state::put_triple;
 use point_state::triple_at;
 
@@ -26,8 +25,8 @@ struct Corners {
 }
 
 // Whether the point is strictly inside box i.
-fn buried_in(boxes: &[f64; CELLS], i: usize, at: [f64; 3]) -> bool
-    requires { ⌜ i < mostBoxes ⌝ }
+fn buried_in(boxes: &[f64], i: usize, at: [f64; 3]) -> bool
+    requires { ⌜ 3 * (2 * i + 1) + 2 < length (now boxes) ⌝ }
     ensures { λ r. ⌜ r ≡ buries (three (now (boxes .entry)) (2 * i)) (three (now (boxes .entry)) (2 * i + 1)) at ⌝ }
 {
     let j = 3 * (2 * i);
@@ -37,8 +36,8 @@ fn buried_in(boxes: &[f64; CELLS], i: usize, at: [f64; 3]) -> bool
     buries(near, size, at)
 }
 
-fn free(boxes: &[f64; CELLS], n: usize, at: [f64; 3]) -> bool
-    requires { ⌜ n ≤ mostBoxes ⌝ }
+fn free(boxes: &[f64], n: usize, at: [f64; 3]) -> bool
+    requires { ⌜ 6 * n ≤ length (now boxes) ⌝ }
     ensures { λ r. ⌜ r ≡ free (now (boxes .entry)) n at ⌝ }
 {
     let mut i = 0;
@@ -52,8 +51,8 @@ fn free(boxes: &[f64; CELLS], n: usize, at: [f64; 3]) -> bool
 }
 
 // Whether a new point is kept.
-fn valid(boxes: &[f64; CELLS], held: usize, ends: [f64; 3], short: bool, at: [f64; 3]) -> bool
-    requires { ⌜ held ≤ mostBoxes ⌝ }
+fn valid(boxes: &[f64], held: usize, ends: [f64; 3], short: bool, at: [f64; 3]) -> bool
+    requires { ⌜ 6 * held ≤ length (now boxes) ⌝ }
     ensures { λ r. ⌜ r ≡ valid (now (boxes .entry)) held ends short at ⌝ }
 {
     if !(short & below_ends(ends, at)) {
@@ -62,14 +61,8 @@ fn valid(boxes: &[f64; CELLS], held: usize, ends: [f64; 3], short: bool, at: [f6
     free(boxes, held, at)
 }
 
-fn new_points(
-    c: Container,
-    boxes: &[f64; CELLS],
-    held: usize,
-    at: [f64; 3],
-    size: [f64; 3],
-) -> Corners
-    requires { ⌜ held ≤ mostBoxes ⌝ }
+fn new_points(c: Container, boxes: &[f64], held: usize, at: [f64; 3], size: [f64; 3]) -> Corners
+    requires { ⌜ 6 * held ≤ length (now boxes) ⌝ }
     ensures { λ r. ⌜ r ≡ cornersOf c (now (boxes .entry)) held at size ⌝ }
 {
     let past = past_of(at, size, c.spacing);
@@ -89,8 +82,8 @@ fn new_points(
 }
 
 // Stores one more point where it is kept, and gives the count after it.
-fn add(points: &mut [f64; CELLS], live: usize, kept: bool, at: [f64; 3]) -> usize
-    requires { ⌜ live < mostPoints ⌝ }
+fn add(points: &mut [f64], live: usize, kept: bool, at: [f64; 3]) -> usize
+    requires { ⌜ 3 * live + 2 < length (now points) ⌝ }
     ensures { λ r. ⌜ Stocked (added kept at (record { live = live; points = now (points .entry) })) r (now (points .exit)) ⌝ }
 {
     if kept {
@@ -100,8 +93,8 @@ fn add(points: &mut [f64; CELLS], live: usize, kept: bool, at: [f64; 3]) -> usiz
     live
 }
 
-fn grow(points: &mut [f64; CELLS], live: usize, new: Corners, at: [f64; 3]) -> usize
-    requires { ⌜ live + 2 < mostPoints ⌝ }
+fn grow(points: &mut [f64], live: usize, new: Corners, at: [f64; 3]) -> usize
+    requires { ⌜ 3 * (live + 2) + 2 < length (now points) ⌝ }
     ensures { λ r. ⌜ Stocked (grown new at (record { live = live; points = now (points .entry) })) r (now (points .exit)) ⌝ }
 {
     let p = new.past;
@@ -110,11 +103,21 @@ fn grow(points: &mut [f64; CELLS], live: usize, new: Corners, at: [f64; 3]) -> u
     add(points, two, new.alongz, [at[0], at[1], p[2]])
 }
 
+// Whether a store of so many cells has room for two points beside `live` ones.
+fn takes_two(cells: usize, live: usize) -> bool
+    ensures { λ r. ⌜ r ≡ ltb (3 * (live + 1) + 2) cells ⌝ }
+{
+    if live >= cells {
+        return false;
+    }
+    live + 1 < cells / 3
+}
+
 // The points after a box of these lengths has gone to point k: that one is gone, and the new ones are stored. Gives their
 // count. Where there is no such point, or no room for what a box leaves, all stays.
 pub fn restock(
-    points: &mut [f64; CELLS],
-    boxes: &[f64; CELLS],
+    points: &mut [f64],
+    boxes: &[f64],
     c: Container,
     live: usize,
     held: usize,
@@ -126,10 +129,10 @@ pub fn restock(
     if k >= live {
         return live;
     }
-    if live >= POINTS - 1 {
+    if !takes_two(points.len(), live) {
         return live;
     }
-    if held >= domain::MOST_BOXES {
+    if held >= boxes.len() / 6 {
         return live;
     }
     let last = live - 1;
@@ -141,10 +144,10 @@ pub fn restock(
 }
 
 // Stores a box with its position and its dimensions as box n, if the store has such a box.
-pub fn put_box(boxes: &mut [f64; CELLS], n: usize, at: [f64; 3], size: [f64; 3])
+pub fn put_box(boxes: &mut [f64], n: usize, at: [f64; 3], size: [f64; 3])
     ensures { λ _. ⌜ now (boxes .exit) ≡ boxIn (now (boxes .entry)) n at size ⌝ }
 {
-    if n >= domain::MOST_BOXES {
+    if n >= boxes.len() / 6 {
         return;
     }
     put_triple(boxes, 2 * n, at);

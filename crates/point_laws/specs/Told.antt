@@ -6,7 +6,6 @@ use mathlib.Core.List.{List}
 use Prim.Native.Nat.{ℕ, zero, suc, _+_, _≤_}
 use native.Mathlib.Nat.{le-refl}
 use native.Mathlib.Omega.{arith}
-use borrow.Author.Tests.{le-ltb}
 use lib.Dec.{eqb}
 use lib.ListN.{length, getD}
 use lib.Ieee.{Float}
@@ -20,7 +19,7 @@ use Rattle.sheet.specs.declared.Sheet.{Sheet}
 use Rattle.sheet.specs.Sheets.{noKind, boxesIn, sheetRefusal}
 use Rattle.sheet.specs.Accepted.{accepted}
 use Rattle.plan_unplaced.specs.declared.Left.{Left}
-use Rattle.plan_unplaced.specs.Left.{leftAfter, leftOf, left-fair}
+use Rattle.plan_unplaced.specs.Left.{by-fair}
 use Rattle.plan_boxes.specs.declared.Instance.{Instance}
 use Rattle.plan_boxes.specs.Listing.{noInstance}
 use Rattle.point_place.specs.declared.Tried.{Tried}
@@ -34,7 +33,7 @@ use Rattle.point_state.specs.Boxes.{totalMass}
 use Rattle.point_stow.specs.Stow.{Stowed, Attempt, attemptOf, turnOf, stowedBy}
 use Rattle.point_step.specs.Pick.{tooHeavy}
 use Rattle.plan_sheet.specs.Boxes.{smaller}
-use Rattle.plan_sheet.specs.Plans.{Plan, leftBy, plannedOf}
+use Rattle.plan_sheet.specs.Plans.{Plan, plannedOf}
 use Rattle.point_run.specs.Order.{fallingBoxes}
 use Rattle.point_run.specs.Runs.{planFrom, runOf, epPackingOf, smaller-le}
 use Rattle.point_run.specs.Kinds.{boxes-few}
@@ -81,10 +80,6 @@ unfolding runOf startOf
 run-no-more c kinds all n = let h = stow-adds (freshOf c .set) kinds (fallingBoxes kinds all) n in omega arith
 
 -- ---- a plan of lines that are few enough is not refused
-
-by-fair : (kinds : List Kind) (m : ℕ) (lines : List Line) (n : ℕ) → m ≤ mostKinds → n ≤ mostLines → leftBy kinds m lines n .refused ≡ 0
-unfolding leftOf
-by-fair kinds m lines n h k = rw (le-ltb mostKinds m h, le-ltb mostLines n k) (left-fair kinds _ m)
 
 pub record Told (p : Plan) (considered placed : ℕ) : Type 0 where
   pub not-refused : p .refused ≡ 0

@@ -6,16 +6,15 @@ use Prim.Native.Nat.{ℕ, zero, suc, _+_, _-_, _<_, _≤_, suc-le-suc}
 use native.Mathlib.Nat.{le-refl, not-suc-le-zero, le-of-suc-le-suc, add-zero, add-suc, zero-add}
 use native.Mathlib.Numerals.{add-one}
 use native.Mathlib.Omega.{arith}
-use lib.ListN.{length, getD, set, take, drop, replicate, length-replicate, length-append, length-set, length-drop, take-append-drop, List·getD-append}
+use lib.ListN.{length, getD, set, take, drop, length-append, length-set, length-drop, take-append-drop, List·getD-append}
 use lib.Seq.{slice, slice-empty, slice-cons, length-take-le, take-suc, take-take, set-at, take-at, getD-take, append-snoc, length-slice, drop-at, drop-drop}
 use lib.Ieee.{Float, nan, lt}
-use Rattle.domain.specs.Bounds.{mostBoxes}
-use Rattle.point_order.specs.Order.{insert, fallingOf, atMostAll, at-most-all, Falls}
+use Rattle.point_order.specs.Order.{insert, fallingOf, lesser, lesser-le, sortable, Falls}
 
--- a store of places, the first n of which are of boxes in the store
-pub record Places (p : List ℕ) (n : ℕ) : Type 0 where
-  pub long : length p ≡ mostBoxes
-  pub place-in : (i : ℕ) → i < n → getD p i 0 < mostBoxes
+-- a store of places, the first n of which are of m boxes
+pub record Places (p : List ℕ) (n m : ℕ) : Type 0 where
+  pub long : n ≤ length p
+  pub place-in : (i : ℕ) → i < n → getD p i 0 < m
 
 -- the first of these places whose box is of smaller volume than v, or as many as there are
 unfoldable pub spotOf : (ℕ → Float) → Float → List ℕ → ℕ
@@ -213,32 +212,30 @@ falling-same f g (suc n) h =
 
 -- ---- a store that has the order
 
-module _ (vol : ℕ → Float) (p : List ℕ) (n : ℕ) (long : length p ≡ mostBoxes) (e : take n p ≡ fallingOf vol n) where
+module _ (vol : ℕ → Float) (p : List ℕ) (n : ℕ) (long : n ≤ length p) (e : take n p ≡ fallingOf vol n) where
   pub place-is : (i : ℕ) → i < n → getD p i 0 ≡ getD (fallingOf vol n) i 0
   place-is i l = sym (getD-take n p i 0 l) ∙ ap (λ (k : List ℕ). getD k i 0) e
 
   pub place-below : (i : ℕ) → i < n → getD p i 0 < n
   place-below i l = rw (place-is i l) (falling-below vol n i l)
 
-  pub places-of : n ≤ mostBoxes → Places p n
-  places-of few = record { long = long; place-in = λ i l. let h = place-below i l in omega arith }
+  pub places-of : (m : ℕ) → n ≤ m → Places p n m
+  places-of m few = record { long = long; place-in = λ i l. let h = place-below i l in omega arith }
 
-  pub spot-few : n ≤ mostBoxes → spotOf vol (vol n) (take n p) ≤ n
-  spot-few few = let h = spot-le vol (vol n) (take n p) in let k = length-take-le n p (omega arith) in omega arith
+  pub spot-few : spotOf vol (vol n) (take n p) ≤ n
+  spot-few = let h = spot-le vol (vol n) (take n p) in let k = length-take-le n p long in omega arith
 
   -- the next box put in
-  pub falls : n < mostBoxes → take (suc n) (opened p (spotOf vol (vol n) (take n p)) n) ≡ fallingOf vol (suc n)
+  pub falls : n < length p → take (suc n) (opened p (spotOf vol (vol n) (take n p)) n) ≡ fallingOf vol (suc n)
   unfolding fallingOf
-  falls few =
-      opened-first p (spotOf vol (vol n) (take n p)) n (spot-few (omega arith)) (omega arith)
-      ∙ (sym (insert-at vol n (take n p)) ∙ ap (insert vol n) e)
+  falls few = opened-first p (spotOf vol (vol n) (take n p)) n spot-few few ∙ (sym (insert-at vol n (take n p)) ∙ ap (insert vol n) e)
 
--- a store so sorted is as long as there can be boxes
-pub falls-long : (volumes : List Float) (n : ℕ) (r : List ℕ) → Falls volumes n r → length r ≡ mostBoxes
-falls-long volumes n r s =
-    let m = atMostAll n in
-    let few = at-most-all n in
+-- a store so sorted keeps its length
+pub falls-long : (volumes : List Float) (n : ℕ) (old r : List ℕ) → Falls volumes n old r → length r ≡ length old
+falls-long volumes n old r s =
+    let m = sortable n volumes old in
+    let h = lesser-le n (lesser (length volumes) (length old)) .right in
+    let k = lesser-le (length volumes) (length old) .right in
     let a : length (take m r) ≡ m = rw (s .first) (falling-length _ m) in
-    let b : length (drop m r) ≡ mostBoxes - m =
-    rw (s .rest) (length-drop m (replicate mostBoxes 0) ∙ ap (λ (k : ℕ). k - m) (length-replicate {A = ℕ} mostBoxes 0)) in
+    let b : length (drop m r) ≡ length old - m = rw (s .rest) (length-drop m old) in
     sym (ap length (take-append-drop m r)) ∙ (length-append (take m r) (drop m r) ∙ omega arith)

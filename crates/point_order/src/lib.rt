@@ -4,28 +4,22 @@ ghost use mathlib.Core.Path.{_≡_};
 ghost use Prim.Native.Nat.{_≤_, _<_};
 ghost use lib.ListN.{length, getD, take};
 ghost use lib.Ieee.{nan};
-ghost use Rattle.domain.specs.Bounds.{mostBoxes};
-ghost use Rattle.point_order.specs.Order.{atMostAll, Falls};
+ghost use Rattle.point_order.specs.Order.{lesser, Falls};
 ghost use Rattle.point_order.specs.Insert.{Places, spotOf, opened};
 
-// At most as many boxes as there can be.
-fn at_most_all(n: usize) -> usize
-    ensures { λ r. ⌜ r ≡ atMostAll n ⌝ }
+// The lesser of two numbers.
+fn lesser(a: usize, b: usize) -> usize
+    ensures { λ r. ⌜ r ≡ lesser a b ⌝ }
 {
-    if n < domain::MOST_BOXES {
-        return n;
+    if a < b {
+        return a;
     }
-    domain::MOST_BOXES
+    b
 }
 
 // The first of the first n places whose box is of smaller volume than v, or n.
-fn spot(
-    volumes: &[f64; domain::MOST_BOXES],
-    places: &[usize; domain::MOST_BOXES],
-    n: usize,
-    v: f64,
-) -> usize
-    requires { ⌜ (n ≤ mostBoxes) × Places (now places) n ⌝ }
+fn spot(volumes: &[f64], places: &[usize], n: usize, v: f64) -> usize
+    requires { ⌜ Places (now places) n (length (now volumes)) ⌝ }
     ensures { λ r. ⌜ r ≡ spotOf (λ t. getD (now (volumes .entry)) t nan) v (take n (now (places .entry))) ⌝ }
 {
     let mut i = 0;
@@ -40,8 +34,8 @@ fn spot(
 }
 
 // Puts n at `at`, with the places from there up to n moved one on.
-fn put_in(places: &mut [usize; domain::MOST_BOXES], at: usize, n: usize)
-    requires { ⌜ (at ≤ n) × (n < mostBoxes) × (length (now places) ≡ mostBoxes) ⌝ }
+fn put_in(places: &mut [usize], at: usize, n: usize)
+    requires { ⌜ (at ≤ n) × (n < length (now places)) ⌝ }
     ensures { λ _. ⌜ now (places .exit) ≡ opened (now (places .entry)) at n ⌝ }
 {
     let mut j = n;
@@ -52,17 +46,15 @@ fn put_in(places: &mut [usize; domain::MOST_BOXES], at: usize, n: usize)
     places[at] = n;
 }
 
-// The places of the first n boxes by falling volume, as many as there can be at most, and 0 in the cells past them.
-pub fn falling(volumes: &[f64; domain::MOST_BOXES], n: usize) -> [usize; domain::MOST_BOXES]
-    ensures { λ r. ⌜ Falls (now (volumes .entry)) n r ⌝ }
+// Stores the places of the first n boxes by falling volume, as many as have a volume and a cell. The cells past them stay.
+pub fn falling(volumes: &[f64], n: usize, places: &mut [usize])
+    ensures { λ _. ⌜ Falls (now (volumes .entry)) n (now (places .entry)) (now (places .exit)) ⌝ }
 {
-    let most = at_most_all(n);
-    let mut places = [0usize; domain::MOST_BOXES];
+    let most = lesser(n, lesser(volumes.len(), places.len()));
     let mut t = 0;
     while t < most {
-        let at = spot(volumes, &places, t, volumes[t]);
-        put_in(&mut places, at, t);
+        let at = spot(volumes, places, t, volumes[t]);
+        put_in(places, at, t);
         t += 1;
     }
-    places
 }

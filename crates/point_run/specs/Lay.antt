@@ -10,7 +10,7 @@ use lib.ListN.{length, getD, set, replicate, length-set, length-replicate}
 use lib.Seq.{getD-set-same, getD-set-other}
 use lib.Ieee.{Float}
 use Rattle.floats.specs.Ops.{x, y, z, none, _⊕_, _⊘_}
-use Rattle.lists.specs.Table.{filled, filled-same}
+use Rattle.lists.specs.Table.{filled, filled-length, filled-same}
 use Rattle.domain.specs.Bounds.{mostKinds, mostBoxes, mostLines}
 use Rattle.measures.specs.declared.Container.{Container}
 use Rattle.measures.specs.declared.Kind.{Kind}
@@ -24,13 +24,14 @@ use Rattle.sheet.specs.Sheets.{noKind}
 use Rattle.sheet.specs.Columns.{Columns, columns}
 use Rattle.point_state.specs.declared.ExtremePointSet.{ExtremePointSet}
 use Rattle.point_state.specs.declared.Label.{Label}
-use Rattle.point_state.specs.Triples.{cells, three, three-other, triple-in, tripleIn}
+use Rattle.point_state.specs.Triples.{cells, three, three-other, triple-in, tripleIn, putIn, put-in}
 use Rattle.point_state.specs.Boxes.{noLabel, volumeBelow, massWith}
 use Rattle.point_state.specs.Fresh.{blank, startOf}
-use Rattle.point_grow.specs.Grow.{putBox, afterBox}
+use Rattle.point_grow.specs.Grow.{putBox, box-long, afterBox}
 use Rattle.point_place.specs.Place.{labelOf}
 use Rattle.point_step.specs.declared.Stood.{Stood}
-use Rattle.point_step.specs.Step.{Stores, stores, StepIs}
+use Rattle.point_step.specs.Step.{Stores, stores, StepIs, hintsFor}
+use Rattle.point_step.specs.Wide.{wide, wideIn, Short, step-wide, triple-wide, put3-wide}
 use Rattle.point_stow.specs.Stow.{Stowed, stowedBy, turnOf}
 use Rattle.point_stow.specs.Turns.{Steady, fresh-empty, pickAt, stow-more, turn-none, turn-some, step-stays, step-state, step-steady}
 use Rattle.point_run.specs.declared.Stand.{Stand}
@@ -55,6 +56,44 @@ pub record EachIs (c : Container) (kinds : List Kind) (items : List Instance) (n
   pub filled-is :
       Filled old (stowed c kinds items n .next .labels) (stowed c kinds items n .next .boxes) (stowed c kinds items n .orientations)
       (stowed c kinds items n .next .held) now
+
+-- ---- the stores of a run
+
+-- stores that are no longer than a state's, with room for n boxes, the points that they leave, and a hint for each of these
+pub record StoresFor (n : ℕ) (s : Stores) : Type 0 where
+  pub points-few : length (s .points) ≤ cells
+  pub boxes-few : length (s .boxes) ≤ cells
+  pub walls-few : length (s .walls) ≤ cells
+  pub points-room : 3 * (1 + 2 * n) ≤ length (s .points)
+  pub boxes-room : 6 * n ≤ length (s .boxes)
+  pub walls-room : 6 * n ≤ length (s .walls)
+  pub hints-room : 1 + 2 * n ≤ length (s .hints)
+
+-- padded, they are those of an empty state
+pub record Blank (points boxes walls : List Float) : Type 0 where
+  pub points-blank : wide points ≡ replicate cells none
+  pub boxes-blank : wide boxes ≡ replicate cells none
+  pub walls-blank : wide walls ≡ replicate cells none
+
+-- there is room for one box more while fewer than n stand
+pub stores-short : (n live held : ℕ) (s t : Stores) → StoresFor n s → n ≤ mostBoxes → held < n → live ≤ 1 + 2 * held → length (t .points) ≡ length (s .points)
+    → length (t .boxes) ≡ length (s .boxes) → length (t .walls) ≡ length (s .walls) → length (t .hints) ≡ length (s .hints) → Short live held t
+stores-short n live held s t f m l k p b w h =
+    let ends : (c : ℕ) → 6 * n ≤ c → 3 * (2 * held + 1) + 2 < c = λ c q. omega (arith, q, l) in
+    record {
+      points-few = rw p (f .points-few);
+      boxes-few = rw b (f .boxes-few);
+      walls-few = rw w (f .walls-few);
+      room =
+          record {
+            counts = record { room = omega (arith, m, l); few = k };
+            held-in = omega (arith, m, l);
+            points-in = let q = f .points-room in omega (arith, q, p, l, k);
+            boxes-in = rw b (ends _ (f .boxes-room));
+            walls-in = rw w (ends _ (f .walls-room));
+          };
+      hinted = let q = f .hints-room in omega (arith, q, h, l, k);
+    }
 
 -- ---- one box more
 
@@ -139,8 +178,20 @@ holds-none c kinds items points old e =
       stuck = λ l copy. absurd (past l);
     })
 
+-- the first point put in blank stores
+pub blank-start : (c : Container) (kinds : List Kind) (items : List Instance) (points boxes walls then : List Float) (old : Columns) → Blank points boxes walls
+    → 3 ≤ length points → then ≡ putIn points 0 (c .margin ∷ c .margin ∷ c .margin ∷ [])
+    → Holds c kinds items 0 1 0 mostKinds (wide then) (wide boxes) (wide walls) none none old old
+unfolding startOf
+blank-start c kinds items points boxes walls then old e l p =
+    let corner = c .margin ∷ c .margin ∷ c .margin ∷ [] in
+    let put = p ∙ put-in points 0 corner l in
+    rw (e .boxes-blank, e .walls-blank)
+    (holds-none c kinds items (wide then) old (rw put (sym (put3-wide points 0 corner l) ∙ rw (e .points-blank))))
+
 module _ (c : Container) (kinds : List Kind) (items : List Instance) (i live held last : ℕ) (points boxes walls : List Float) (hints : List ℕ)
-    (mass vol : Float) (old now : Columns) (h : Holds c kinds items i live held last points boxes walls mass vol old now) (room : held < mostBoxes) where
+    (mass vol : Float) (old now : Columns) (h : Holds c kinds items i live held last points boxes walls mass vol old now) (room : held < mostBoxes)
+    (hinted : live ≤ length hints) where
   abbrev item : Instance
   item = getD items i noInstance
 
@@ -171,9 +222,9 @@ module _ (c : Container) (kinds : List Kind) (items : List Instance) (i live hel
     -- the box does not stand, and neither does another of its kind
     pub holds-still : r .found ≡ false → Holds c kinds items (i + 1) live held (item .kind) (t .points) (t .boxes) (t .walls) mass vol old now
     holds-still e =
-        let y = step-stays s walls hints mass kind (h .steady) room r t k e in
+        let y = step-stays s walls hints mass kind (h .steady) room hinted r t k e in
         let none-stands : (copy : ℕ) → turnOf kind copy (soFar s (h .orientations)) ≡ soFar s (h .orientations) =
-        λ copy. turn-none s walls hints mass kind (h .steady) room copy (h .orientations) right (sym (k .found-is) ∙ e) in
+        λ copy. turn-none s walls hints mass kind (h .steady) room hinted copy (h .orientations) right (sym (k .found-is) ∙ e) in
         let same-then : soFar s (h .orientations) ≡ stowed c kinds items (i + 1) =
         sym (stow-more _ kinds items i (soFar s (h .orientations)) (h .same) ∙ none-stands (item .instance)) in
         rw (y .points-stay, y .boxes-stay, y .walls-stay)
@@ -201,19 +252,23 @@ module _ (c : Container) (kinds : List Kind) (items : List Instance) (i live hel
         (set (now .xs) held (x place)) (set (now .ys) held (y place)) (set (now .zs) held (z place))
 
     box-is : r .found ≡ true
-        → t .boxes ≡ putBox boxes held (three points (pickAt s walls hints mass kind (h .steady) room .index))
-        (lengthsIn kind (pickAt s walls hints mass kind (h .steady) room .orientation))
+        → t .boxes ≡ putBox boxes held (three points (pickAt s walls hints mass kind (h .steady) room hinted .index))
+        (lengthsIn kind (pickAt s walls hints mass kind (h .steady) room hinted .orientation))
     unfolding afterBox
-    box-is e = ap (λ (v : ExtremePointSet). v .boxes) (step-state s walls hints mass kind (h .steady) room r t k label e)
+    box-is e = ap (λ (v : ExtremePointSet). v .boxes) (step-state s walls hints mass kind (h .steady) room hinted r t k label e)
+
+    box-in-store : r .found ≡ true → 3 * (2 * held + 1) + 2 < length (t .boxes)
+    box-in-store e = rw (box-is e, box-long boxes held _ _, h .steady .boxes-long) (omega arith)
 
     cells-with : r .found ≡ true → Filled old (set (h .labels) held label) (t .boxes) (set (h .orientations) held (r .orientation)) (held + 1) cellsWith
     cells-with e =
         let b = box-is e in
-        let at = three points (pickAt s walls hints mass kind (h .steady) room .index) in
-        let size = lengthsIn kind (pickAt s walls hints mass kind (h .steady) room .orientation) in
+        let at = three points (pickAt s walls hints mass kind (h .steady) room hinted .index) in
+        let size = lengthsIn kind (pickAt s walls hints mass kind (h .steady) room hinted .orientation) in
         let before = line-before (h .labels) boxes (h .orientations) held label at size (r .orientation) in
         let new = line-new (h .labels) boxes (h .orientations) held label at size (r .orientation) (rw (h .steady .long) room) (rw (h .long) room) in
-        let in-store = triple-in (t .boxes) (2 * held) (omega arith) in
+        let end = box-in-store e in
+        let in-store = triple-in (t .boxes) (2 * held) (omega (arith, end)) in
         let f = h .filled-is in
         rw (in-store, b)
         (record {
@@ -234,18 +289,18 @@ module _ (c : Container) (kinds : List Kind) (items : List Instance) (i live hel
         → Holds c kinds items (i + 1) (r .live) (held + 1) mostKinds (t .points) (t .boxes) (t .walls) m v old cellsWith
     holds-next m v e g w =
         let b = box-is e in
-        let at = three points (pickAt s walls hints mass kind (h .steady) room .index) in
-        let size = lengthsIn kind (pickAt s walls hints mass kind (h .steady) room .orientation) in
-        let p = step-state s walls hints mass kind (h .steady) room r t k label e in
+        let at = three points (pickAt s walls hints mass kind (h .steady) room hinted .index) in
+        let size = lengthsIn kind (pickAt s walls hints mass kind (h .steady) room hinted .orientation) in
+        let p = step-state s walls hints mass kind (h .steady) room hinted r t k label e in
         record {
           labels = set (h .labels) held label;
           orientations = set (h .orientations) held (r .orientation);
           same = stood-by _ _ (h .orientations) held _ _ p (k .orientation-is)
               ∙ sym (stow-more _ kinds items i (soFar s (h .orientations)) (h .same)
-              ∙ turn-some s walls hints mass kind (h .steady) room (item .instance) (h .orientations) right (sym (k .found-is) ∙ e));
-          steady = rw g (step-steady s walls hints mass kind (h .steady) room r t k label e);
+              ∙ turn-some s walls hints mass kind (h .steady) room hinted (item .instance) (h .orientations) right (sym (k .found-is) ∙ e));
+          steady = rw g (step-steady s walls hints mass kind (h .steady) room hinted r t k label e);
           long = length-set (h .orientations) held (r .orientation) ∙ h .long;
-          volume-is = w ∙ rw (triple-in (t .boxes) (2 * held + 1) (omega arith), b)
+          volume-is = w ∙ rw (triple-in (t .boxes) (2 * held + 1) (box-in-store e), b)
               (volume-more (h .labels) boxes (h .orientations) held label at size (r .orientation) vol (h .volume-is));
           filled-is = cells-with e;
           stuck = λ l copy. absurd (past l);
@@ -269,6 +324,58 @@ module _ (c : Container) (kinds : List Kind) (items : List Instance) (i live hel
         (columns (set (now .ids) held (read .id)) (set (now .instances) held copy) (set (now .turns) held (r .orientation)) (set (now .xs) held (x at))
         (set (now .ys) held (y at)) (set (now .zs) held (z at)))
     next-read at m v e g p q w = rw (p, g, read-is) (holds-next right r t step-of m v e (rw read-is at q) w)
+
+-- the same over shorter stores, with any hints
+module _ (c : Container) (kinds : List Kind) (items : List Instance) (i live held last : ℕ) (points boxes walls : List Float) (hints : List ℕ)
+    (mass vol : Float) (old now : Columns) (h : Holds c kinds items i live held last (wide points) (wide boxes) (wide walls) mass vol old now)
+    (short : Short live held (stores points boxes walls hints)) (read : Kind) (copy : ℕ) (r : Stood) (t : Stores)
+    (k : StepIs c live held mass read (stores points boxes walls hints) r t)
+    (read-is : read ≡ getD kinds (getD items i noInstance .kind) noKind) (right : kindFault (getD kinds (getD items i noInstance .kind) noKind) false ≡ 0) where
+  abbrev room-in : held < mostBoxes
+  room-in = short .room .held-in
+
+  abbrev wide-step : StepIs c live held mass read (wideIn (stores points boxes walls hints) hints) r
+      (wideIn t (hintsFor c live held mass read (wideIn (stores points boxes walls hints) hints)))
+  wide-step = step-wide c live held mass read (stores points boxes walls hints) short hints (short .hinted) r t k
+
+  pub still-short : (j : ℕ) → j ≡ getD items i noInstance .kind → r .found ≡ false
+      → Holds c kinds items (i + 1) live held j (wide (t .points)) (wide (t .boxes)) (wide (t .walls)) mass vol old now
+  still-short j g e =
+      still-read c kinds items i live held last _ _ _ hints mass vol old now h room-in (short .hinted) read copy r _ wide-step read-is right j g e
+
+  pub next-short : length (t .boxes) ≡ length boxes → (at : List Float) (m v : Float) → r .found ≡ true → copy ≡ getD items i noInstance .instance
+      → at ≡ tripleIn (t .boxes) (2 * held) → m ≡ massWith mass (read .massed) (read .mass) → v ≡ vol ⊕ volume (tripleIn (t .boxes) (2 * held + 1))
+      → Holds c kinds items (i + 1) (r .live) (held + 1) mostKinds (wide (t .points)) (wide (t .boxes)) (wide (t .walls)) m v old
+      (columns (set (now .ids) held (read .id)) (set (now .instances) held copy) (set (now .turns) held (r .orientation)) (set (now .xs) held (x at))
+      (set (now .ys) held (y at)) (set (now .zs) held (z at)))
+  next-short kept at m v e g p q u =
+      let few = short .boxes-few in
+      let end = short .room .boxes-in in
+      let low = triple-wide (t .boxes) (2 * held) (omega (arith, few, kept)) (omega (arith, end, kept)) in
+      let high = triple-wide (t .boxes) (2 * held + 1) (omega (arith, few, kept)) (omega (arith, end, kept)) in
+      next-read c kinds items i live held last _ _ _ hints mass vol old now h room-in (short .hinted) read copy r _ wide-step read-is right at m v e g
+      (p ∙ sym low) q (rw high u)
+
+-- the columns keep their lengths
+pub record SameLong (old now : Columns) : Type 0 where
+  pub ids : length (now .ids) ≡ length (old .ids)
+  pub instances : length (now .instances) ≡ length (old .instances)
+  pub turns : length (now .turns) ≡ length (old .turns)
+  pub xs : length (now .xs) ≡ length (old .xs)
+  pub ys : length (now .ys) ≡ length (old .ys)
+  pub zs : length (now .zs) ≡ length (old .zs)
+
+pub filled-long : {old now : Columns} {labels : List Label} {boxes : List Float} {orientations : List ℕ} {held : ℕ}
+    → Filled old labels boxes orientations held now → SameLong old now
+filled-long {old} {now} {labels} {boxes} {orientations} {held} f =
+    record {
+      ids = rw (f .ids-are) (filled-length (old .ids) _ held);
+      instances = rw (f .instances-are) (filled-length (old .instances) _ held);
+      turns = rw (f .turns-are) (filled-length (old .turns) _ held);
+      xs = rw (f .xs-are) (filled-length (old .xs) _ held);
+      ys = rw (f .ys-are) (filled-length (old .ys) _ held);
+      zs = rw (f .zs-are) (filled-length (old .zs) _ held);
+    }
 
 -- after the last box
 pub holds-all : (c : Container) (kinds : List Kind) (items : List Instance) (n live held last : ℕ) (points boxes walls : List Float) (mass vol : Float)

@@ -20,7 +20,7 @@ use Rattle.sheet.specs.declared.Line.{Line}
 use Rattle.sheet.specs.declared.Sheet.{Sheet}
 use Rattle.sheet.specs.Sheets.{noLine, blankLine, blankKind, boxesIn, sheetRefusal}
 use Rattle.sheet.specs.Accepted.{Accepted, accepted}
-use Rattle.plan_unplaced.specs.Left.{leftOf, left-fair}
+use Rattle.plan_unplaced.specs.Left.{by-fair}
 use Rattle.plan_boxes.specs.declared.Instance.{Instance}
 use Rattle.plan_sheet.specs.declared.Told.{Told}
 use Rattle.plan_sheet.specs.Boxes.{smaller, smaller-le}
@@ -44,10 +44,6 @@ use Rattle.sheet.specs.Columns.{Columns}
 use Rattle.point_run.specs.Lay.{stowed, EachIs}
 
 -- ---- the plan of lines that are few enough
-
-by-fair : (kinds : List Kind) (m : ℕ) (lines : List Line) (n : ℕ) → m ≤ mostKinds → n ≤ mostLines → leftBy kinds m lines n .refused ≡ 0
-unfolding leftOf
-by-fair kinds m lines n h k = rw (le-ltb mostKinds m h, le-ltb mostLines n k) (left-fair kinds _ m)
 
 module _ (c : Container) (kinds : List Kind) (m : ℕ) (g : Stowed) (n : ℕ) (few : m ≤ mostKinds) (room : g .next .held ≤ mostLines) where
   abbrev plan : Plan
@@ -95,6 +91,13 @@ module _ (f : List ℕ) (consider : ℕ) (e : refusalOf f ≡ 0) where
 
   held-few : (n : ℕ) → run n .next .held ≤ mostLines
   held-few n = rw (run-is n) (within-counts _ _ (run-within (order .container) (order .kinds) all n) .room)
+
+  -- it considers the boxes asked for
+  pub considers : (n : ℕ) → n ≡ smaller consider all → planIn epPackingOf f consider .considered ≡ n
+  considers n m =
+      ap (λ (p : Plan). p .considered) (sym (plan-is n m))
+      ∙ ap (λ (t : Told). t .considered)
+      (plan-told (order .container) (order .kinds) (order .many .kinds) (run n) n (taken-sheet .few-of .kinds) (held-few n))
 
   pub laid-by : (n : ℕ) (c : Container) (old now : Columns) (r : Stand) (u : Float) → n ≡ smaller consider all → c ≡ order .container
       → EachIs c (order .kinds) (boxesBy order) n old r now → u ≡ r .volume ⊘ volume (c .size)

@@ -1,12 +1,17 @@
-// The run of the extreme-point placer over a load file's order (extreme_point.rs, `run_ep_packing`): the file is tested once, the stores are locals of one
-// function, and each placed box is a cell of the lent columns.
+// The run of the extreme-point placer over a load file's order (extreme_point.rs, `run_ep_packing`): the file is tested once, the stores are lent to the
+// placer in one of two sizes, and each placed box is a cell of the lent columns.
 ghost use mathlib.Core.Path.{_≡_};
+ghost use Prim.Native.Nat.{_≤_};
+ghost use lib.ListN.{length};
+ghost use Rattle.domain.specs.Bounds.{fewBoxes};
 ghost use Rattle.file_read.specs.Reading.{sheetOf};
 ghost use Rattle.plan_boxes.specs.Files.{InFile};
 ghost use Rattle.sheet.specs.Columns.{columns};
-ghost use Rattle.point_run.specs.Boxes.{Lists, Ready, boxesBy};
 ghost use Rattle.plan_sheet.specs.Laid.{planIn, Lays};
-ghost use Rattle.point_run.specs.Lay.{EachIs};
+ghost use Rattle.plan_sheet.specs.Room.{fitting, Roomy};
+ghost use Rattle.point_step.specs.Step.{stores};
+ghost use Rattle.point_run.specs.Boxes.{Lists, Ready, Asked, Tables, boxesBy};
+ghost use Rattle.point_run.specs.Lay.{StoresFor, Blank, EachIs};
 ghost use Rattle.point_run.specs.Runs.{epPackingOf};
 use file_read::records;
 use measures::Container;
@@ -15,6 +20,11 @@ use plan_sheet::Told;
 use point_state::CELLS;
 use point_state::POINTS;
 
+// The stores of a small order.
+const FEW_POINTS: usize = 1 + 2 * domain::FEW_BOXES;
+
+const FEW_CELLS: usize = 3 * FEW_POINTS;
+
 // How many boxes stand, and their volume.
 struct Stand {
     held: usize,
@@ -22,14 +32,8 @@ struct Stand {
 }
 
 // The first n boxes of the order, in listing order: the place of the kind of each, which copy it is, and its volume.
-fn list_boxes(
-    f: &[u8],
-    n: usize,
-    which: &mut [usize; domain::MOST_BOXES],
-    copies: &mut [u32; domain::MOST_BOXES],
-    volumes: &mut [f64; domain::MOST_BOXES],
-)
-    requires { ⌜ InFile (now f) n ⌝ }
+fn list_boxes(f: &[u8], n: usize, which: &mut [usize], copies: &mut [u32], volumes: &mut [f64])
+    requires { ⌜ InFile (now f) n × (n ≤ length (now which)) × (n ≤ length (now copies)) × (n ≤ length (now volumes)) ⌝ }
     ensures { λ _. ⌜ Lists (sheetOf (now (f .entry)) .kinds) n (now (which .entry)) (now (copies .entry)) (now (volumes .entry))
         (now (which .exit)) (now (copies .exit)) (now (volumes .exit)) ⌝ }
 {
@@ -49,35 +53,35 @@ fn list_boxes(
     }
 }
 
-// The first n boxes by falling volume, one after the other, in an empty container: each that stands gets a cell of every column. One like the box before it,
-// which found no place, finds none either: nothing has changed for it.
+// The first n boxes by falling volume, one after the other, in an empty container with blank stores: each that stands gets a cell of every column. One like
+// the box before it, which found no place, finds none either: nothing has changed for it.
 fn lay_each(
     f: &[u8],
     c: Container,
-    which: &[usize; domain::MOST_BOXES],
-    copies: &[u32; domain::MOST_BOXES],
-    places: &[usize; domain::MOST_BOXES],
+    which: &[usize],
+    copies: &[u32],
+    places: &[usize],
     n: usize,
-    ids: &mut [u32; domain::MOST_LINES],
-    instances: &mut [u32; domain::MOST_LINES],
-    turns: &mut [u32; domain::MOST_LINES],
-    xs: &mut [f64; domain::MOST_LINES],
-    ys: &mut [f64; domain::MOST_LINES],
-    zs: &mut [f64; domain::MOST_LINES],
+    points: &mut [f64],
+    boxes: &mut [f64],
+    walls: &mut [f64],
+    hints: &mut [u16],
+    ids: &mut [u32],
+    instances: &mut [u32],
+    turns: &mut [u32],
+    xs: &mut [f64],
+    ys: &mut [f64],
+    zs: &mut [f64],
 ) -> Stand
-    requires { ⌜ Ready (now f) (now which) (now copies) (now places) n ⌝ }
+    requires { ⌜ Ready (now f) (now which) (now copies) (now places) n × StoresFor n (stores (now points) (now boxes) (now walls) (now hints))
+        × Blank (now points) (now boxes) (now walls)
+        × Roomy (columns (now ids) (now instances) (now turns) (now xs) (now ys) (now zs)) n ⌝ }
     ensures { λ r. ⌜ EachIs c (sheetOf (now (f .entry)) .kinds) (boxesBy (sheetOf (now (f .entry)))) n
         (columns (now (ids .entry)) (now (instances .entry)) (now (turns .entry)) (now (xs .entry)) (now (ys .entry)) (now (zs .entry)))
         r (columns (now (ids .exit)) (now (instances .exit)) (now (turns .exit)) (now (xs .exit)) (now (ys .exit)) (now (zs .exit))) ⌝ }
 {
     let m = c.margin;
-    let mut points = [0.0; CELLS];
-    points[0] = m;
-    points[1] = m;
-    points[2] = m;
-    let mut boxes = [0.0; CELLS];
-    let mut walls = [0.0; CELLS];
-    let mut hints = [0u16; POINTS];
+    point_state::put_triple(points, 0, [m, m, m]);
     let mut live = 1;
     let mut held = 0;
     let mut last = domain::MOST_KINDS;
@@ -92,25 +96,15 @@ fn lay_each(
             continue;
         }
         let kind = records::kind_in(f, k);
-        let s = point_step::step(
-            &mut points,
-            &mut boxes,
-            &mut walls,
-            &mut hints,
-            c,
-            live,
-            held,
-            mass,
-            kind,
-        );
+        let s = point_step::step(points, boxes, walls, hints, c, live, held, mass, kind);
         if !s.found {
             last = k;
             continue;
         }
         last = domain::MOST_KINDS;
         live = s.live;
-        let at = point_state::triple_at(&boxes, 2 * held);
-        let size = point_state::triple_at(&boxes, 2 * held + 1);
+        let at = point_state::triple_at(boxes, 2 * held);
+        let size = point_state::triple_at(boxes, 2 * held + 1);
         ids[held] = kind.id;
         instances[held] = copies[p];
         turns[held] = s.orientation;
@@ -124,19 +118,191 @@ fn lay_each(
     Stand { held, volume }
 }
 
+// The same of an order of so many boxes, which are listed and sorted first, in lent stores.
+fn lay_in(
+    f: &[u8],
+    c: Container,
+    all: usize,
+    n: usize,
+    which: &mut [usize],
+    copies: &mut [u32],
+    volumes: &mut [f64],
+    places: &mut [usize],
+    points: &mut [f64],
+    boxes: &mut [f64],
+    walls: &mut [f64],
+    hints: &mut [u16],
+    ids: &mut [u32],
+    instances: &mut [u32],
+    turns: &mut [u32],
+    xs: &mut [f64],
+    ys: &mut [f64],
+    zs: &mut [f64],
+) -> Stand
+    requires { ⌜ Asked (now f) all n × Tables all (now which) (now copies) (now volumes) (now places)
+        × StoresFor n (stores (now points) (now boxes) (now walls) (now hints)) × Blank (now points) (now boxes) (now walls)
+        × Roomy (columns (now ids) (now instances) (now turns) (now xs) (now ys) (now zs)) n ⌝ }
+    ensures { λ r. ⌜ EachIs c (sheetOf (now (f .entry)) .kinds) (boxesBy (sheetOf (now (f .entry)))) n
+        (columns (now (ids .entry)) (now (instances .entry)) (now (turns .entry)) (now (xs .entry)) (now (ys .entry)) (now (zs .entry)))
+        r (columns (now (ids .exit)) (now (instances .exit)) (now (turns .exit)) (now (xs .exit)) (now (ys .exit)) (now (zs .exit))) ⌝ }
+{
+    list_boxes(f, all, which, copies, volumes);
+    point_order::falling(volumes, all, places);
+    lay_each(
+        f,
+        c,
+        which,
+        copies,
+        places,
+        n,
+        points,
+        boxes,
+        walls,
+        hints,
+        ids,
+        instances,
+        turns,
+        xs,
+        ys,
+        zs,
+    )
+}
+
+// With stores for few boxes.
+fn lay_few(
+    f: &[u8],
+    c: Container,
+    all: usize,
+    n: usize,
+    ids: &mut [u32],
+    instances: &mut [u32],
+    turns: &mut [u32],
+    xs: &mut [f64],
+    ys: &mut [f64],
+    zs: &mut [f64],
+) -> Stand
+    requires { ⌜ Asked (now f) all n × (all ≤ fewBoxes) × Roomy (columns (now ids) (now instances) (now turns) (now xs) (now ys) (now zs)) n ⌝ }
+    ensures { λ r. ⌜ EachIs c (sheetOf (now (f .entry)) .kinds) (boxesBy (sheetOf (now (f .entry)))) n
+        (columns (now (ids .entry)) (now (instances .entry)) (now (turns .entry)) (now (xs .entry)) (now (ys .entry)) (now (zs .entry)))
+        r (columns (now (ids .exit)) (now (instances .exit)) (now (turns .exit)) (now (xs .exit)) (now (ys .exit)) (now (zs .exit))) ⌝ }
+{
+    let mut which = [0usize; domain::FEW_BOXES];
+    let mut copies = [0u32; domain::FEW_BOXES];
+    let mut volumes = [0.0; domain::FEW_BOXES];
+    let mut places = [0usize; domain::FEW_BOXES];
+    let mut points = [0.0; FEW_CELLS];
+    let mut boxes = [0.0; FEW_CELLS];
+    let mut walls = [0.0; FEW_CELLS];
+    let mut hints = [0u16; FEW_POINTS];
+    lay_in(
+        f,
+        c,
+        all,
+        n,
+        &mut which,
+        &mut copies,
+        &mut volumes,
+        &mut places,
+        &mut points,
+        &mut boxes,
+        &mut walls,
+        &mut hints,
+        ids,
+        instances,
+        turns,
+        xs,
+        ys,
+        zs,
+    )
+}
+
+// With stores for as many boxes as there can be.
+fn lay_many(
+    f: &[u8],
+    c: Container,
+    all: usize,
+    n: usize,
+    ids: &mut [u32],
+    instances: &mut [u32],
+    turns: &mut [u32],
+    xs: &mut [f64],
+    ys: &mut [f64],
+    zs: &mut [f64],
+) -> Stand
+    requires { ⌜ Asked (now f) all n × Roomy (columns (now ids) (now instances) (now turns) (now xs) (now ys) (now zs)) n ⌝ }
+    ensures { λ r. ⌜ EachIs c (sheetOf (now (f .entry)) .kinds) (boxesBy (sheetOf (now (f .entry)))) n
+        (columns (now (ids .entry)) (now (instances .entry)) (now (turns .entry)) (now (xs .entry)) (now (ys .entry)) (now (zs .entry)))
+        r (columns (now (ids .exit)) (now (instances .exit)) (now (turns .exit)) (now (xs .exit)) (now (ys .exit)) (now (zs .exit))) ⌝ }
+{
+    let mut which = [0usize; domain::MOST_BOXES];
+    let mut copies = [0u32; domain::MOST_BOXES];
+    let mut volumes = [0.0; domain::MOST_BOXES];
+    let mut places = [0usize; domain::MOST_BOXES];
+    let mut points = [0.0; CELLS];
+    let mut boxes = [0.0; CELLS];
+    let mut walls = [0.0; CELLS];
+    let mut hints = [0u16; POINTS];
+    lay_in(
+        f,
+        c,
+        all,
+        n,
+        &mut which,
+        &mut copies,
+        &mut volumes,
+        &mut places,
+        &mut points,
+        &mut boxes,
+        &mut walls,
+        &mut hints,
+        ids,
+        instances,
+        turns,
+        xs,
+        ys,
+        zs,
+    )
+}
+
+// In the smaller stores that do.
+fn lay_boxes(
+    f: &[u8],
+    c: Container,
+    all: usize,
+    n: usize,
+    ids: &mut [u32],
+    instances: &mut [u32],
+    turns: &mut [u32],
+    xs: &mut [f64],
+    ys: &mut [f64],
+    zs: &mut [f64],
+) -> Stand
+    requires { ⌜ Asked (now f) all n × Roomy (columns (now ids) (now instances) (now turns) (now xs) (now ys) (now zs)) n ⌝ }
+    ensures { λ r. ⌜ EachIs c (sheetOf (now (f .entry)) .kinds) (boxesBy (sheetOf (now (f .entry)))) n
+        (columns (now (ids .entry)) (now (instances .entry)) (now (turns .entry)) (now (xs .entry)) (now (ys .entry)) (now (zs .entry)))
+        r (columns (now (ids .exit)) (now (instances .exit)) (now (turns .exit)) (now (xs .exit)) (now (ys .exit)) (now (zs .exit))) ⌝ }
+{
+    if all <= domain::FEW_BOXES {
+        return lay_few(f, c, all, n, ids, instances, turns, xs, ys, zs);
+    }
+    lay_many(f, c, all, n, ids, instances, turns, xs, ys, zs)
+}
+
 // All boxes of the order in a file, largest first, as far as `consider` goes: the plan's lines in the columns, and what is told
-// of it. Of a refused file no cell changes.
+// of it. Columns that lack a cell for each box considered are refused by 6. Where the call is refused no cell changes.
 pub fn lay_points(
     order: &[u8],
     consider: u64,
-    ids: &mut [u32; domain::MOST_LINES],
-    instances: &mut [u32; domain::MOST_LINES],
-    turns: &mut [u32; domain::MOST_LINES],
-    xs: &mut [f64; domain::MOST_LINES],
-    ys: &mut [f64; domain::MOST_LINES],
-    zs: &mut [f64; domain::MOST_LINES],
+    ids: &mut [u32],
+    instances: &mut [u32],
+    turns: &mut [u32],
+    xs: &mut [f64],
+    ys: &mut [f64],
+    zs: &mut [f64],
 ) -> Told
-    ensures { λ r. ⌜ Lays (planIn epPackingOf (now (order .entry)) consider) r
+    ensures { λ r. ⌜ Lays (fitting
+        (columns (now (ids .entry)) (now (instances .entry)) (now (turns .entry)) (now (xs .entry)) (now (ys .entry)) (now (zs .entry)))
+        (planIn epPackingOf (now (order .entry)) consider)) r
         (columns (now (ids .entry)) (now (instances .entry)) (now (turns .entry)) (now (xs .entry)) (now (ys .entry)) (now (zs .entry)))
         (columns (now (ids .exit)) (now (instances .exit)) (now (turns .exit)) (now (xs .exit)) (now (ys .exit)) (now (zs .exit))) ⌝ }
 {
@@ -148,17 +314,13 @@ pub fn lay_points(
     let size = c.size;
     let all = plan_boxes::boxes_of(order, a.kinds);
     let n = plan_sheet::smaller(consider, all);
-    let mut which = [0usize; domain::MOST_BOXES];
-    let mut copies = [0u32; domain::MOST_BOXES];
-    let mut volumes = [0.0; domain::MOST_BOXES];
-    list_boxes(order, all as usize, &mut which, &mut copies, &mut volumes);
-    let places = point_order::falling(&volumes, all as usize);
-    let stand = lay_each(
+    if !sheet::has_room(ids, instances, turns, xs, ys, zs, n as usize) {
+        return plan_sheet::refused_told(6);
+    }
+    let stand = lay_boxes(
         order,
         c,
-        &which,
-        &copies,
-        &places,
+        all as usize,
         n as usize,
         ids,
         instances,

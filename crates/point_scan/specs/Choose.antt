@@ -63,3 +63,18 @@ module _ (passes : ℕ → Bool) (points : List Float) where
   unfolding scanBy
   scan-same other zero h = refl
   scan-same other (suc n) h = rw (h n, scan-same other n h)
+
+  pub scan-near : (n : ℕ) → scanBy passes points n .index ≤ n
+  unfolding scanBy
+  scan-near zero = le-refl 0
+  scan-near (suc n) = let h : scanBy passes points (suc n) .index ≤ n = scan-index n in omega arith
+
+-- so do tests and points that agree below n
+pub scan-alike : (passes other : ℕ → Bool) (p q : List Float) (n : ℕ) → ((i : ℕ) → i < n → passes i ≡ other i)
+    → ((i : ℕ) → i < n → three p i ≡ three q i) → scanBy passes p n ≡ scanBy other q n
+unfolding scanBy
+scan-alike passes other p q zero h k = refl
+scan-alike passes other p q (suc n) h k =
+    let near = scan-near passes p n in
+    let e = scan-alike passes other p q n (λ i l. h i (omega arith)) (λ i l. k i (omega arith)) in
+    rw (h n (omega arith), k n (omega arith), k (scanBy passes p n .index) (omega arith), e)

@@ -1,23 +1,24 @@
 -- The walls of the placed boxes, worked out once, the scan by them with its hints, and that it makes the choice of the definition.
 -- RULES: First placer: point test
 use mathlib.Core.Path.{_≡_, refl, _∙_, ap}
-use mathlib.Core.Bool.{Bool, false, not, cond, _&&_}
+use mathlib.Core.Bool.{Bool, false, not, cond, _&&_, _||_}
 use mathlib.Core.List.{List, [], _∷_}
 use Prim.Native.Nat.{ℕ, zero, suc, _+_, _*_, _<_, _≤_}
 use native.Mathlib.Nat.{not-suc-le-zero}
 use native.Mathlib.Omega.{arith}
-use borrow.Author.Tests.{lt-ltb}
+use borrow.Author.Tests.{ltb-false, le-ltb}
 use lib.Dec.{ltb}
-use lib.ListN.{length, getD, set, replicate, length-replicate}
+use lib.ListN.{length, getD, set, replicate, length-set, length-replicate}
 use lib.Ieee.{Float}
 use Rattle.floats.specs.Ops.{none}
 use Rattle.domain.specs.Bounds.{mostBoxes}
 use Rattle.lists.specs.Below.{upto}
+use Rattle.lists.specs.Bools.{or-left, or-right, cond-keeps}
 use Rattle.measures.specs.Asked.{askedOf}
 use Rattle.point_state.specs.declared.ExtremePointSet.{ExtremePointSet}
 use Rattle.point_state.specs.All.{all, all-same}
-use Rattle.point_state.specs.Counts.{overCounts, over}
-use Rattle.point_state.specs.Triples.{cells, three, put3, sum3, put3-length, three-same, three-other}
+use Rattle.point_state.specs.Counts.{overCounts, over, Within, within-counts, not-over}
+use Rattle.point_state.specs.Triples.{cells, three, put3, sum3, put3-length, three-same, three-other, hasTriple, has-triple}
 use Rattle.point_state.specs.Stores.{pointAt}
 use Rattle.point_fit.specs.declared.Room.{Room}
 use Rattle.point_fit.specs.Fit.{roomOf, inRoom, apart, farWall, nearWall}
@@ -80,13 +81,18 @@ walls-walled boxes s zero h =
     record { long = length-replicate cells none; far-is = λ i l. absurd (not-suc-le-zero l); near-is = λ i l. absurd (not-suc-le-zero l) }
 walls-walled boxes s (suc n) h = put-walled boxes s n (wallsOf boxes s n) (omega arith) (walls-walled boxes s n (omega arith))
 
--- a box past the store has no walls there
+-- a box past either store has no walls there
 unfoldable pub wallsIn : List Float → List Float → ℕ → Float → List Float
-wallsIn walls boxes i s = cond (ltb i mostBoxes) (putWalls walls boxes i s) walls
+wallsIn walls boxes i s = cond (hasTriple walls (2 * i + 1)) (cond (hasTriple boxes (2 * i + 1)) (putWalls walls boxes i s) walls) walls
 
-pub walls-in : (walls boxes : List Float) (i : ℕ) (s : Float) → i < mostBoxes → wallsIn walls boxes i s ≡ putWalls walls boxes i s
+pub walls-in : (walls boxes : List Float) (i : ℕ) (s : Float) → 3 * (2 * i + 1) + 2 < length walls → 3 * (2 * i + 1) + 2 < length boxes
+    → wallsIn walls boxes i s ≡ putWalls walls boxes i s
 unfolding wallsIn
-walls-in walls boxes i s h = rw (lt-ltb i mostBoxes h)
+walls-in walls boxes i s h l = rw (has-triple walls (2 * i + 1) h, has-triple boxes (2 * i + 1) l)
+
+pub put-walls-long : (walls boxes : List Float) (i : ℕ) (s : Float) → length (putWalls walls boxes i s) ≡ length walls
+unfolding putWalls
+put-walls-long walls boxes i s = put3-length _ (2 * i + 1) _ ∙ put3-length walls (2 * i) _
 
 -- ---- the scan by the walls: the choice, and the hints after it
 
@@ -121,22 +127,74 @@ pub record ScanIs (room : Room) (walls : List Float) (held : ℕ) (size points :
   pub choice-is : r ≡ scanOf room walls held size points live
   pub hints-are : after ≡ hintsOf room walls held size points hints live
 
--- counts over the bounds: no point, and the hints stay
-unfoldable pub scannedOf : Room → List Float → ℕ → List Float → List Float → ℕ → Choice
-scannedOf room walls held size points live = cond (overCounts live held) noChoice (scanOf room walls held size points live)
+-- the counts are over the bounds, or over stores of so many cells
+unfoldable pub overStores : (points walls hints live held : ℕ) → Bool
+overStores points walls hints live held = overCounts live held || (ltb points (3 * live) || (ltb walls (6 * held) || ltb hints live))
+
+-- such counts, where m is the number of hints: no point, and the hints stay
+unfoldable pub scannedOf : Room → List Float → ℕ → List Float → List Float → ℕ → ℕ → Choice
+scannedOf room walls held size points live m =
+    cond (overStores (length points) (length walls) m live held) noChoice (scanOf room walls held size points live)
 
 unfoldable pub hintsIn : Room → List Float → ℕ → List Float → List Float → List ℕ → ℕ → List ℕ
-hintsIn room walls held size points hints live = cond (overCounts live held) hints (hintsOf room walls held size points hints live)
+hintsIn room walls held size points hints live =
+    cond (overStores (length points) (length walls) (length hints) live held) hints (hintsOf room walls held size points hints live)
 
 pub record ScannedIs (room : Room) (walls : List Float) (held : ℕ) (size points : List Float) (live : ℕ) (hints : List ℕ) (r : Choice)
     (after : List ℕ) : Type 0 where
-  pub choice-is : r ≡ scannedOf room walls held size points live
+  pub choice-is : r ≡ scannedOf room walls held size points live (length hints)
   pub hints-are : after ≡ hintsIn room walls held size points hints live
 
-pub scanned-in : (room : Room) (walls : List Float) (held : ℕ) (size points : List Float) (live : ℕ) → overCounts live held ≡ false
-    → scannedOf room walls held size points live ≡ scanOf room walls held size points live
+-- ---- laws on the counts and the hints
+
+pub record InStores (points walls hints live held : ℕ) : Type 0 where
+  pub counts : Within live held
+  pub points-in : 3 * live ≤ points
+  pub walls-in : 6 * held ≤ walls
+  pub hints-in : live ≤ hints
+
+pub in-stores : (points walls hints live held : ℕ) → overStores points walls hints live held ≡ false → InStores points walls hints live held
+unfolding overStores
+in-stores points walls hints live held e =
+    let a = or-right (overCounts live held) _ e in
+    let b = or-right (ltb points (3 * live)) _ a in
+    record {
+      counts = within-counts live held (or-left (overCounts live held) _ e);
+      points-in = ltb-false points (3 * live) (or-left (ltb points (3 * live)) _ a);
+      walls-in = ltb-false walls (6 * held) (or-left (ltb walls (6 * held)) _ b);
+      hints-in = ltb-false hints live (or-right (ltb walls (6 * held)) _ b);
+    }
+
+pub not-over-stores : (points walls hints live held : ℕ) → InStores points walls hints live held → overStores points walls hints live held ≡ false
+unfolding overStores
+not-over-stores points walls hints live held h =
+    rw (not-over live held (h .counts), le-ltb points (3 * live) (h .points-in), le-ltb walls (6 * held) (h .walls-in), le-ltb hints live (h .hints-in))
+
+pub scanned-in : (room : Room) (walls : List Float) (held : ℕ) (size points : List Float) (live m : ℕ)
+    → InStores (length points) (length walls) m live held → scannedOf room walls held size points live m ≡ scanOf room walls held size points live
 unfolding scannedOf
-scanned-in room walls held size points live e = rw e
+scanned-in room walls held size points live m h = rw (not-over-stores _ _ m live held h)
+
+-- the hints keep their number
+with-hints : (room : Room) (walls : List Float) (held : ℕ) (size points : List Float) (i : ℕ) (c : Choice) (hints : List ℕ)
+    → length (hintsWith room walls held size points i c hints) ≡ length hints
+unfolding hintsWith
+with-hints room walls held size points i c hints =
+    cond-keeps (λ (l : List ℕ). length l ≡ length hints) (asked (c .found) (three points i) (three points (c .index))) (length-set hints i _) refl
+
+pub hints-long : (room : Room) (walls : List Float) (held : ℕ) (size points : List Float) (hints : List ℕ) (n : ℕ)
+    → length (hintsOf room walls held size points hints n) ≡ length hints
+unfolding hintsOf
+hints-long room walls held size points hints zero = refl
+hints-long room walls held size points hints (suc n) =
+    with-hints room walls held size points n _ _ ∙ hints-long room walls held size points hints n
+
+pub hints-in-long : (room : Room) (walls : List Float) (held : ℕ) (size points : List Float) (hints : List ℕ) (live : ℕ)
+    → length (hintsIn room walls held size points hints live) ≡ length hints
+unfolding hintsIn
+hints-in-long room walls held size points hints live =
+    cond-keeps (λ (l : List ℕ). length l ≡ length hints) (overStores (length points) (length walls) (length hints) live held) refl
+    (hints-long room walls held size points hints live)
 
 -- the choice of a state, and none of one whose counts are over the bounds
 unfoldable pub bestIn : ExtremePointSet → List Float → Choice

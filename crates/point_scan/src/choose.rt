@@ -2,51 +2,60 @@
 // last time.
 ghost use mathlib.Core.Path.{_≡_};
 ghost use mathlib.Core.Bool.{cond, not, _&&_};
-ghost use Prim.Native.Nat.{_≤_, _<_};
+ghost use Prim.Native.Nat.{_+_, _*_, _≤_, _<_};
+ghost use lib.ListN.{length};
 ghost use Rattle.domain.specs.Bounds.{mostBoxes};
-ghost use Rattle.point_state.specs.Triples.{mostPoints, three};
+ghost use Rattle.point_state.specs.Triples.{three};
 ghost use Rattle.point_fit.specs.Sooner.{sooner};
-ghost use Rattle.point_scan.specs.Walls.{TakesIs, ScanIs, ScannedIs, bestIn};
+ghost use Rattle.point_scan.specs.Walls.{TakesIs, ScanIs, ScannedIs, overStores, bestIn};
 use crate::Choice;
 use crate::fit::fit;
 use crate::walls::walls_of;
 use point_fit::Room;
 use point_fit::room_of;
 use point_fit::sooner;
-use point_state::CELLS;
 use point_state::ExtremePointSet;
 use point_state::POINTS;
-use point_state::triple_at;
+
+// Point k.
+fn point_at(points: &[f64], k: usize) -> [f64; 3]
+    requires { ⌜ 3 * k + 2 < length (now points) ⌝ }
+    ensures { λ r. ⌜ r ≡ three (now (points .entry)) k ⌝ }
+{
+    let j = 3 * k;
+    [points[j], points[j + 1], points[j + 2]]
+}
 
 // Whether a choice was made, point k, and the point v does not stand before it.
-fn behind(points: &[f64; CELLS], v: [f64; 3], k: usize, found: bool) -> bool
-    requires { ⌜ k < mostPoints ⌝ }
+fn behind(points: &[f64], v: [f64; 3], k: usize, found: bool) -> bool
+    requires { ⌜ 3 * k + 2 < length (now points) ⌝ }
     ensures { λ r. ⌜ r ≡ (found && not (sooner v (three (now (points .entry)) k))) ⌝ }
 {
     if !found {
         return false;
     }
-    let w = triple_at(points, k);
+    let w = point_at(points, k);
     !sooner(v, w)
 }
 
 // Whether point i takes the place of the choice so far, which is point k if one was found. A point that does not stand before
 // it is not tested.
 fn takes(
-    points: &[f64; CELLS],
-    walls: &[f64; CELLS],
+    points: &[f64],
+    walls: &[f64],
     held: usize,
     room: Room,
     size: [f64; 3],
-    hints: &mut [u16; POINTS],
+    hints: &mut [u16],
     i: usize,
     found: bool,
     k: usize,
 ) -> bool
-    requires { ⌜ (held ≤ mostBoxes) × (i < mostPoints) × (k < mostPoints) ⌝ }
+    requires { ⌜ (held ≤ mostBoxes) × (6 * held ≤ length (now walls)) × (3 * i + 2 < length (now points)) × (3 * k + 2 < length (now points))
+        × (i < length (now hints)) ⌝ }
     ensures { λ r. ⌜ TakesIs room (now (walls .entry)) held size (now (points .entry)) i found k (now (hints .entry)) r (now (hints .exit)) ⌝ }
 {
-    let v = triple_at(points, i);
+    let v = point_at(points, i);
     if behind(points, v, k, found) {
         return false;
     }
@@ -66,15 +75,15 @@ fn select(first: bool, i: usize, k: usize) -> usize
 
 // The least of the first `live` points at which a box of these lengths fits, apart from the first `held` boxes.
 fn scan_in(
-    points: &[f64; CELLS],
+    points: &[f64],
     live: usize,
-    walls: &[f64; CELLS],
+    walls: &[f64],
     held: usize,
     room: Room,
     size: [f64; 3],
-    hints: &mut [u16; POINTS],
+    hints: &mut [u16],
 ) -> Choice
-    requires { ⌜ (held ≤ mostBoxes) × (live ≤ mostPoints) ⌝ }
+    requires { ⌜ (held ≤ mostBoxes) × (6 * held ≤ length (now walls)) × (3 * live ≤ length (now points)) × (live ≤ length (now hints)) ⌝ }
     ensures { λ r. ⌜ ScanIs room (now (walls .entry)) held size (now (points .entry)) live (now (hints .entry)) r (now (hints .exit)) ⌝ }
 {
     let mut found = false;
@@ -89,19 +98,29 @@ fn scan_in(
     Choice { found, index }
 }
 
-// The same, and no point where the counts are over the stores.
+// Whether the counts are over the bounds, or over stores of so many cells.
+fn over_stores(points: usize, walls: usize, hints: usize, live: usize, held: usize) -> bool
+    ensures { λ r. ⌜ r ≡ overStores points walls hints live held ⌝ }
+{
+    if point_state::over_counts(live, held) {
+        return true;
+    }
+    (points < 3 * live) | ((walls < 6 * held) | (hints < live))
+}
+
+// The same, and no point where the counts are over the bounds or over the stores.
 pub fn scan(
-    points: &[f64; CELLS],
+    points: &[f64],
     live: usize,
-    walls: &[f64; CELLS],
+    walls: &[f64],
     held: usize,
     room: Room,
     size: [f64; 3],
-    hints: &mut [u16; POINTS],
+    hints: &mut [u16],
 ) -> Choice
     ensures { λ r. ⌜ ScannedIs room (now (walls .entry)) held size (now (points .entry)) live (now (hints .entry)) r (now (hints .exit)) ⌝ }
 {
-    if point_state::over_counts(live, held) {
+    if over_stores(points.len(), walls.len(), hints.len(), live, held) {
         return Choice {
             found: false,
             index: 0,

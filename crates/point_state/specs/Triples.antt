@@ -5,13 +5,14 @@ use mathlib.Core.Bool.{Bool, true, false, cond}
 use mathlib.Core.List.{List, [], _∷_}
 use Prim.Native.Nat.{ℕ, _+_, _*_, _<_, _≤_}
 use native.Mathlib.Omega.{arith}
-use borrow.Author.Tests.{eqb-true, eqb-false, lt-ltb}
+use borrow.Author.Tests.{eqb-true, eqb-false, lt-ltb, le-ltb}
 use lib.Dec.{eqb, ltb}
 use lib.ListN.{length, getD, set, length-set}
 use lib.Seq.{getD-set-same, getD-set-other}
 use lib.Ieee.{Float, nan}
 use Rattle.floats.specs.Ops.{x, y, z, nowhere, _⊕_}
 use Rattle.domain.specs.Bounds.{mostBoxes}
+use Rattle.lists.specs.Bools.{cond-keeps}
 
 -- as many points as so many boxes can leave: one, and two more for each box. RULES: Numbers that bound it
 abbrev pub mostPoints : ℕ
@@ -75,16 +76,32 @@ put3-keeps P v k j t h new old = go (eqb j k) refl
 
 -- ---- the calls on stores: past the store nothing is read, and nothing is stored
 
+-- the store has a triple k
+unfoldable pub hasTriple : List Float → ℕ → Bool
+hasTriple v k = ltb (3 * k + 2) (length v)
+
 unfoldable pub tripleIn : List Float → ℕ → List Float
-tripleIn v k = cond (ltb k mostPoints) (three v k) nowhere
+tripleIn v k = cond (hasTriple v k) (three v k) nowhere
 
 unfoldable pub putIn : List Float → ℕ → List Float → List Float
-putIn v k t = cond (ltb k mostPoints) (put3 v k t) v
+putIn v k t = cond (hasTriple v k) (put3 v k t) v
 
-pub triple-in : (v : List Float) (k : ℕ) → k < mostPoints → tripleIn v k ≡ three v k
+pub has-triple : (v : List Float) (k : ℕ) → 3 * k + 2 < length v → hasTriple v k ≡ true
+unfolding hasTriple
+has-triple v k h = lt-ltb (3 * k + 2) (length v) h
+
+pub has-no-triple : (v : List Float) (k : ℕ) → length v ≤ 3 * k + 2 → hasTriple v k ≡ false
+unfolding hasTriple
+has-no-triple v k h = le-ltb (3 * k + 2) (length v) h
+
+pub triple-in : (v : List Float) (k : ℕ) → 3 * k + 2 < length v → tripleIn v k ≡ three v k
 unfolding tripleIn
-triple-in v k h = rw (lt-ltb k mostPoints h)
+triple-in v k h = rw (has-triple v k h)
 
-pub put-in : (v : List Float) (k : ℕ) (t : List Float) → k < mostPoints → putIn v k t ≡ put3 v k t
+pub put-in : (v : List Float) (k : ℕ) (t : List Float) → 3 * k + 2 < length v → putIn v k t ≡ put3 v k t
 unfolding putIn
-put-in v k t h = rw (lt-ltb k mostPoints h)
+put-in v k t h = rw (has-triple v k h)
+
+pub put-in-length : (v : List Float) (k : ℕ) (t : List Float) → length (putIn v k t) ≡ length v
+unfolding putIn
+put-in-length v k t = cond-keeps (λ (l : List Float). length l ≡ length v) (hasTriple v k) (put3-length v k t) refl

@@ -10,10 +10,10 @@ pub fn sum3(a: [f64; 3], b: [f64; 3]) -> [f64; 3]
 }
 
 // Triple k of a store.
-pub fn triple_at(v: &[f64; crate::CELLS], k: usize) -> [f64; 3]
+pub fn triple_at(v: &[f64], k: usize) -> [f64; 3]
     ensures { λ r. ⌜ r ≡ tripleIn (now (v .entry)) k ⌝ }
 {
-    if k >= crate::POINTS {
+    if k >= v.len() / 3 {
         return [0.0, 0.0, 0.0];
     }
     let j = 3 * k;
@@ -21,10 +21,10 @@ pub fn triple_at(v: &[f64; crate::CELLS], k: usize) -> [f64; 3]
 }
 
 // Stores a triple as triple k.
-pub fn put_triple(v: &mut [f64; crate::CELLS], k: usize, t: [f64; 3])
+pub fn put_triple(v: &mut [f64], k: usize, t: [f64; 3])
     ensures { λ _. ⌜ now (v .exit) ≡ putIn (now (v .entry)) k t ⌝ }
 {
-    if k >= crate::POINTS {
+    if k >= v.len() / 3 {
         return;
     }
     let j = 3 * k;

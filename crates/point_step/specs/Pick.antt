@@ -1,19 +1,24 @@
 -- Whether a box is too heavy, and the point and the orientation of the next box. RULES: First placer: run
 use mathlib.Core.Path.{_≡_, refl, sym, _∙_}
-use mathlib.Core.Bool.{Bool, true, false, cond, _&&_}
+use mathlib.Core.Bool.{Bool, true, false, not, cond, _&&_}
 use mathlib.Core.Logic.{⊎-elim}
 use mathlib.Core.List.{List}
-use Prim.Native.Nat.{ℕ, zero, suc, _+_, _≤_, _<_}
+use Prim.Native.Nat.{ℕ, zero, suc, _+_, _*_, _≤_, _<_}
 use native.Mathlib.Nat.{eq-or-lt-of-le, le-of-suc-le-suc, not-suc-le-zero}
 use native.Mathlib.Numerals.{add-one}
 use native.Mathlib.Omega.{arith}
+use borrow.Author.Tests.{lt-ltb, ltb-true, not-true}
+use lib.Dec.{ltb}
+use lib.ListN.{length}
 use lib.Ieee.{Float, lt}
 use Rattle.floats.specs.Ops.{none, _⊕_}
 use Rattle.floats.specs.Weak.{true-false}
-use Rattle.lists.specs.Bools.{cond-cases}
+use Rattle.lists.specs.Bools.{and-left, and-right, cond-cases}
+use Rattle.domain.specs.Bounds.{mostBoxes}
 use Rattle.measures.specs.declared.Kind.{Kind}
 use Rattle.measures.specs.Asked.{hasMass}
 use Rattle.measures.specs.Orders.{lengthsIn}
+use Rattle.point_state.specs.Counts.{overCounts, Within, within-counts, not-over}
 use Rattle.point_fit.specs.declared.Room.{Room}
 use Rattle.point_scan.specs.declared.Choice.{Choice}
 use Rattle.point_scan.specs.Walls.{scannedOf, hintsIn}
@@ -22,6 +27,13 @@ use Rattle.point_step.specs.declared.Pick.{Pick}
 -- the box's mass would bring the total over the limit. A limit that is not above 0 is none, and a box without a mass is never too heavy.
 unfoldable pub tooHeavy : Float → Float → Kind → Bool
 tooHeavy limit total kind = (lt none limit && hasMass (kind .massed)) && lt limit (total ⊕ kind .mass)
+
+-- the counts are within their bounds, with one box less than there can be, and stores of so many cells take what one box more leaves: two points, the box,
+-- and its walls
+unfoldable pub spare : (points boxes walls live held : ℕ) → Bool
+spare points boxes walls live held =
+    not (overCounts live held)
+    && (ltb held mostBoxes && (ltb (3 * (live + 1) + 2) points && (ltb (3 * (2 * held + 1) + 2) boxes && ltb (3 * (2 * held + 1) + 2) walls)))
 
 abbrev pub noPick : Pick
 noPick = record { found = false; index = 0; orientation = 0 }
@@ -40,10 +52,10 @@ hintsBy choice scan hints zero = hints
 hintsBy choice scan hints (suc o) =
     let h = hintsBy choice scan hints o in cond (pickBy choice o .found) h (scan o h)
 
--- over stores: each orientation by a scan of the points
-module _ (room : Room) (walls : List Float) (held : ℕ) (points : List Float) (live : ℕ) (kind : Kind) where
+-- over stores with m hints: each orientation by a scan of the points
+module _ (room : Room) (walls : List Float) (held : ℕ) (points : List Float) (live : ℕ) (kind : Kind) (m : ℕ) where
   abbrev pub choiceIn : ℕ → Choice
-  choiceIn o = scannedOf room walls held (lengthsIn kind o) points live
+  choiceIn o = scannedOf room walls held (lengthsIn kind o) points live m
 
   unfoldable pub pickOf : ℕ → Pick
   pickOf n = pickBy choiceIn n
@@ -51,9 +63,40 @@ module _ (room : Room) (walls : List Float) (held : ℕ) (points : List Float) (
   unfoldable pub pickHints : List ℕ → ℕ → List ℕ
   pickHints hints n = hintsBy choiceIn (λ o h. hintsIn room walls held (lengthsIn kind o) points h live) hints n
 
-  pub record PickIs (n : ℕ) (hints : List ℕ) (r : Pick) (after : List ℕ) : Type 0 where
-    pub pick-is : r ≡ pickOf n
-    pub hints-are : after ≡ pickHints hints n
+pub record PickIs (room : Room) (walls : List Float) (held : ℕ) (points : List Float) (live : ℕ) (kind : Kind) (n : ℕ) (hints : List ℕ) (r : Pick)
+    (after : List ℕ) : Type 0 where
+  pub pick-is : r ≡ pickOf room walls held points live kind (length hints) n
+  pub hints-are : after ≡ pickHints room walls held points live kind (length hints) hints n
+
+-- ---- laws on the room
+
+pub record Spare (points boxes walls live held : ℕ) : Type 0 where
+  pub counts : Within live held
+  pub held-in : held < mostBoxes
+  pub points-in : 3 * (live + 1) + 2 < points
+  pub boxes-in : 3 * (2 * held + 1) + 2 < boxes
+  pub walls-in : 3 * (2 * held + 1) + 2 < walls
+
+pub spare-in : (points boxes walls live held : ℕ) → Spare points boxes walls live held → spare points boxes walls live held ≡ true
+unfolding spare
+spare-in points boxes walls live held h =
+    rw (not-over live held (h .counts), lt-ltb held mostBoxes (h .held-in), lt-ltb (3 * (live + 1) + 2) points (h .points-in))
+    (rw (lt-ltb (3 * (2 * held + 1) + 2) boxes (h .boxes-in), lt-ltb (3 * (2 * held + 1) + 2) walls (h .walls-in)))
+
+pub spare-of : (points boxes walls live held : ℕ) → spare points boxes walls live held ≡ true → Spare points boxes walls live held
+unfolding spare
+spare-of points boxes walls live held e =
+    let a = and-right (not (overCounts live held)) _ e in
+    let b = and-right (ltb held mostBoxes) _ a in
+    let d = and-right (ltb (3 * (live + 1) + 2) points) _ b in
+    let end = 3 * (2 * held + 1) + 2 in
+    record {
+      counts = within-counts live held (not-true (overCounts live held) (and-left (not (overCounts live held)) _ e));
+      held-in = ltb-true held mostBoxes (and-left (ltb held mostBoxes) _ a);
+      points-in = ltb-true (3 * (live + 1) + 2) points (and-left (ltb (3 * (live + 1) + 2) points) _ b);
+      boxes-in = ltb-true end boxes (and-left (ltb end boxes) _ d);
+      walls-in = ltb-true end walls (and-right (ltb end boxes) _ d);
+    }
 
 -- ---- laws on the pick
 

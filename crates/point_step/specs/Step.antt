@@ -1,13 +1,10 @@
 -- The stores after one box. RULES: First placer: run
 use mathlib.Core.Path.{_≡_, sym, _∙_}
-use mathlib.Core.Bool.{true, false, cond}
+use mathlib.Core.Bool.{Bool, true, false, cond}
 use mathlib.Core.List.{List}
-use Prim.Native.Nat.{ℕ, _≤_, _<_}
-use borrow.Author.Tests.{lt-ltb, le-ltb}
-use lib.Dec.{ltb}
+use Prim.Native.Nat.{ℕ}
 use lib.ListN.{length}
 use lib.Ieee.{Float}
-use Rattle.domain.specs.Bounds.{mostBoxes}
 use Rattle.measures.specs.declared.Container.{Container}
 use Rattle.measures.specs.declared.Kind.{Kind}
 use Rattle.measures.specs.Asked.{askedOf}
@@ -20,7 +17,7 @@ use Rattle.point_grow.specs.Told.{Stocked}
 use Rattle.point_scan.specs.Walls.{wallsIn}
 use Rattle.point_step.specs.declared.Pick.{Pick}
 use Rattle.point_step.specs.declared.Stood.{Stood}
-use Rattle.point_step.specs.Pick.{tooHeavy, noPick, pickOf, pickHints, PickIs}
+use Rattle.point_step.specs.Pick.{tooHeavy, spare, noPick, pickOf, pickHints, PickIs}
 
 -- what a run keeps of a container: the stored points, the placed boxes with their walls, and a hint for each point
 pub record Stores : Type 0 where
@@ -32,18 +29,20 @@ pub record Stores : Type 0 where
 abbrev pub stores : List Float → List Float → List Float → List ℕ → Stores
 stores points boxes walls hints = record { points = points; boxes = boxes; walls = walls; hints = hints }
 
+-- the stores have room for one box more, beside `held` boxes and `live` points
+abbrev pub spareIn : Stores → ℕ → ℕ → Bool
+spareIn s live held = spare (length (s .points)) (length (s .boxes)) (length (s .walls)) live held
+
 -- the point and the orientation of a box of this kind, beside `held` boxes of so much mass: none for one that is too heavy, or with no room for a box more
 unfoldable pub pickFor : Container → ℕ → ℕ → Float → Kind → Stores → Pick
 pickFor c live held mass kind s =
-    cond (ltb held mostBoxes)
-    (cond (tooHeavy (c .limit) mass kind) noPick (pickOf (roomOf c) (s .walls) held (s .points) live kind (length (shareOf (kind .rule)))))
-    noPick
+    let pick = pickOf (roomOf c) (s .walls) held (s .points) live kind (length (s .hints)) (length (shareOf (kind .rule))) in
+    cond (spareIn s live held) (cond (tooHeavy (c .limit) mass kind) noPick pick) noPick
 
 unfoldable pub hintsFor : Container → ℕ → ℕ → Float → Kind → Stores → List ℕ
 hintsFor c live held mass kind s =
-    cond (ltb held mostBoxes)
-    (cond (tooHeavy (c .limit) mass kind) (s .hints) (pickHints (roomOf c) (s .walls) held (s .points) live kind (s .hints) (length (shareOf (kind .rule)))))
-    (s .hints)
+    let after = pickHints (roomOf c) (s .walls) held (s .points) live kind (length (s .hints)) (s .hints) (length (shareOf (kind .rule))) in
+    cond (spareIn s live held) (cond (tooHeavy (c .limit) mass kind) (s .hints) after) (s .hints)
 
 -- the stores after a pick: the box stands at its point as box `held`, or all stays
 module _ (c : Container) (live held : ℕ) (kind : Kind) (p : Pick) (s : Stores) where
@@ -75,20 +74,18 @@ module _ (c : Container) (live held : ℕ) (mass : Float) (kind : Kind) (s : Sto
     pub pick-is : pickFor c live held mass kind s ≡ p
     pub hints-are : hintsFor c live held mass kind s ≡ hints
 
-  pub picked-full : mostBoxes ≤ held → Picked noPick (s .hints)
+  pub picked-full : spareIn s live held ≡ false → Picked noPick (s .hints)
   unfolding pickFor hintsFor
-  picked-full h = let e = le-ltb held mostBoxes h in record { pick-is = rw e; hints-are = rw e }
+  picked-full e = record { pick-is = rw e; hints-are = rw e }
 
-  pub picked-heavy : held < mostBoxes → tooHeavy (c .limit) mass kind ≡ true → Picked noPick (s .hints)
+  pub picked-heavy : spareIn s live held ≡ true → tooHeavy (c .limit) mass kind ≡ true → Picked noPick (s .hints)
   unfolding pickFor hintsFor
-  picked-heavy h e = let l = lt-ltb held mostBoxes h in record { pick-is = rw (l, e); hints-are = rw (l, e) }
+  picked-heavy l e = record { pick-is = rw (l, e); hints-are = rw (l, e) }
 
-  pub picked-by : (room : Room) (n : ℕ) (p : Pick) (hints : List ℕ) → held < mostBoxes → tooHeavy (c .limit) mass kind ≡ false → room ≡ roomOf c
+  pub picked-by : (room : Room) (n : ℕ) (p : Pick) (hints : List ℕ) → spareIn s live held ≡ true → tooHeavy (c .limit) mass kind ≡ false → room ≡ roomOf c
       → n ≡ length (shareOf (kind .rule)) → PickIs room (s .walls) held (s .points) live kind n (s .hints) p hints → Picked p hints
   unfolding pickFor hintsFor
-  picked-by room n p hints h e g m i =
-      let l = lt-ltb held mostBoxes h in
-      record { pick-is = rw (l, e, ← g, ← m) (sym (i .pick-is)); hints-are = rw (l, e, ← g, ← m) (sym (i .hints-are)) }
+  picked-by room n p hints l e g m i = record { pick-is = rw (l, e, ← g, ← m) (sym (i .pick-is)); hints-are = rw (l, e, ← g, ← m) (sym (i .hints-are)) }
 
   -- the box does not stand
   pub step-none : (p : Pick) (hints : List ℕ) → Picked p hints → p ≡ noPick

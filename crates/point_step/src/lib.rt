@@ -4,12 +4,11 @@ ghost use Rattle.point_step.specs.Step.{stores, StepIs};
 
 mod turns; // turns.rt: the orientation and the point of a box
 
+use crate::turns::has_spare;
 use crate::turns::pick;
 use crate::turns::too_heavy;
 use measures::Container;
 use measures::Kind;
-use point_state::CELLS;
-use point_state::POINTS;
 
 // The point and the orientation found for a box, if any.
 pub struct Pick {
@@ -26,12 +25,12 @@ pub struct Stood {
 }
 
 // One box of the kind, beside `held` boxes of so much mass. Where it stands it is box `held` of the boxes and of the walls. With
-// counts over the bounds, or no room for one box more, it does not stand; where it does not, all but the hints stays.
+// counts over the bounds, or stores without room for one box more, it does not stand; where it does not, all but the hints stays.
 pub fn step(
-    points: &mut [f64; CELLS],
-    boxes: &mut [f64; CELLS],
-    walls: &mut [f64; CELLS],
-    hints: &mut [u16; POINTS],
+    points: &mut [f64],
+    boxes: &mut [f64],
+    walls: &mut [f64],
+    hints: &mut [u16],
     c: Container,
     live: usize,
     held: usize,
@@ -46,7 +45,7 @@ pub fn step(
         orientation: 0,
         live,
     };
-    if held >= domain::MOST_BOXES {
+    if !has_spare(points.len(), boxes.len(), walls.len(), live, held) {
         return none;
     }
     if too_heavy(c.limit, mass, kind) {

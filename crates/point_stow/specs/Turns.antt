@@ -24,23 +24,23 @@ use Rattle.plan_boxes.specs.declared.Instance.{Instance}
 use Rattle.plan_boxes.specs.Listing.{noInstance}
 use Rattle.point_state.specs.declared.Label.{Label}
 use Rattle.point_state.specs.declared.ExtremePointSet.{ExtremePointSet}
-use Rattle.point_state.specs.Triples.{cells, mostPoints, three, three-other, triple-in}
+use Rattle.point_state.specs.Triples.{cells, three, three-other, triple-in, put3-length}
 use Rattle.point_state.specs.Fresh.{blank, startOf}
 use Rattle.point_state.specs.Boxes.{noLabel, labelAt, massWith, massBelow}
 use Rattle.point_state.specs.Counts.{overCounts, Within, not-over}
 use Rattle.point_fit.specs.Fit.{roomOf}
-use Rattle.point_grow.specs.Grow.{putBox, afterBox, stockOf, stock-few, restock-in, box-in}
+use Rattle.point_grow.specs.Grow.{putBox, afterBox, stockOf, stock-few, stock-long, box-long, restock-in, box-in}
 use Rattle.point_scan.specs.Choose.{bestOf, scan-found}
-use Rattle.point_scan.specs.Walls.{Walled, wallsOf, walls-walled, putWalls, put-walled, walls-in, scanOf, scanned-in, walled-best}
+use Rattle.point_scan.specs.Walls.{Walled, wallsOf, walls-walled, putWalls, put-walled, walls-in, InStores, scanOf, scanned-in, walled-best}
 use Rattle.point_place.specs.Place.{refusalOf, labelOf}
 use Rattle.point_step.specs.declared.Pick.{Pick}
 use Rattle.point_step.specs.declared.Stood.{Stood}
-use Rattle.point_step.specs.Pick.{tooHeavy, noPick, pickOf, pickBy, choiceIn, pick-same, pick-index}
+use Rattle.point_step.specs.Pick.{tooHeavy, Spare, spare-in, noPick, pickOf, pickBy, choiceIn, pick-same, pick-index}
 use Rattle.point_step.specs.Step.{Stores, stores, StepIs, pickFor, stockAfter, boxesAfter, wallsAfter}
 use Rattle.point_stow.specs.Stow.{Stowed, Attempt, attemptOf, afterAttempt, turnOf, stowedBy}
 use Rattle.point_stow.specs.Agrees.{pickedOf, Agrees, attempt-agrees}
 
--- ---- what the loop keeps of a state: counts within their bounds, the walls of its boxes, and their mass
+-- ---- what the loop keeps of a state: counts within their bounds, stores of their full length, the walls of its boxes, and their mass
 
 pub record Steady (s : ExtremePointSet) (walls : List Float) (mass : Float) : Type 0 where
   pub room : s .held ≤ mostBoxes
@@ -48,6 +48,8 @@ pub record Steady (s : ExtremePointSet) (walls : List Float) (mass : Float) : Ty
   pub walled : Walled (s .boxes) (askedOf (s .container)) (s .held) walls
   pub mass-is : mass ≡ massBelow (s .labels) (s .held)
   pub long : length (s .labels) ≡ mostBoxes
+  pub points-long : length (s .points) ≡ cells
+  pub boxes-long : length (s .boxes) ≡ cells
 
 -- an empty container has no walls and no mass
 pub record Empty (s : ExtremePointSet) : Type 0 where
@@ -66,6 +68,8 @@ fresh-empty c fault =
             walled = walls-walled (replicate cells none) (askedOf c) 0 (omega arith);
             mass-is = refl;
             long = length-replicate mostBoxes blank;
+            points-long = put3-length _ 0 _ ∙ length-replicate cells none;
+            boxes-long = length-replicate cells none;
           };
     }
   where
@@ -114,6 +118,8 @@ steady-next s walls mass k label size h l r =
                 (s .held) label noLabel m,
           );
       long = length-set (s .labels) (s .held) label ∙ h .long;
+      points-long = stock-long (s .container) (s .boxes) (s .held) (s .live) (s .points) k size ∙ h .points-long;
+      boxes-long = box-long (s .boxes) (s .held) _ size ∙ h .boxes-long;
     }
 
 -- ---- a turn
@@ -145,7 +151,8 @@ stow-more s kinds items i f e = rw (add-one, ← e)
 
 -- ---- the step of a run in a steady state
 
-module _ (s : ExtremePointSet) (walls : List Float) (hints : List ℕ) (mass : Float) (kind : Kind) (h : Steady s walls mass) (room : s .held < mostBoxes) where
+module _ (s : ExtremePointSet) (walls : List Float) (hints : List ℕ) (mass : Float) (kind : Kind) (h : Steady s walls mass) (room : s .held < mostBoxes)
+    (hinted : s .live ≤ length hints) where
   abbrev pub storesAt : Stores
   storesAt = stores (s .points) (s .boxes) walls hints
 
@@ -162,20 +169,42 @@ module _ (s : ExtremePointSet) (walls : List Float) (hints : List ℕ) (mass : F
   fair : overCounts (s .live) (s .held) ≡ false
   fair = not-over (s .live) (s .held) (record { room = h .room; few = h .few })
 
-  pick-is : (b : Bool) → heavy ≡ b → pickAt ≡ cond b noPick (pickOf (roomOf (s .container)) walls (s .held) (s .points) (s .live) kind turns)
+  -- there is room for one box more
+  spared : Spare (length (s .points)) (length (s .boxes)) (length walls) (s .live) (s .held)
+  spared =
+      let p = h .points-long in
+      let b = h .boxes-long in
+      let w = h .walled .long in
+      let f = h .few in
+      record {
+        counts = record { room = h .room; few = h .few };
+        held-in = room;
+        points-in = omega (arith, p, f, room);
+        boxes-in = omega (arith, b, room);
+        walls-in = omega (arith, w, room);
+      }
+
+  within : InStores (length (s .points)) (length walls) (length hints) (s .live) (s .held)
+  within =
+      let p = spared .points-in in
+      let w = spared .walls-in in
+      record { counts = spared .counts; points-in = omega (arith, p); walls-in = omega (arith, w); hints-in = hinted }
+
+  pick-is : (b : Bool) → heavy ≡ b → pickAt ≡ cond b noPick (pickOf (roomOf (s .container)) walls (s .held) (s .points) (s .live) kind (length hints) turns)
   unfolding pickFor
-  pick-is b e = rw (lt-ltb (s .held) mostBoxes room, e)
+  pick-is b e = rw (spare-in _ _ _ (s .live) (s .held) spared, e)
 
   -- a scan for one orientation makes the choice of the definition
-  choice-best : (o : ℕ) → choiceIn (roomOf (s .container)) walls (s .held) (s .points) (s .live) kind o ≡ bestOf s (lengthsIn kind o)
-  choice-best o = scanned-in (roomOf (s .container)) walls (s .held) (lengthsIn kind o) (s .points) (s .live) fair ∙ walled-best s walls (lengthsIn kind o)
-      (h .walled)
+  choice-best : (o : ℕ) → choiceIn (roomOf (s .container)) walls (s .held) (s .points) (s .live) kind (length hints) o ≡ bestOf s (lengthsIn kind o)
+  choice-best o =
+      scanned-in (roomOf (s .container)) walls (s .held) (lengthsIn kind o) (s .points) (s .live) (length hints) within
+      ∙ walled-best s walls (lengthsIn kind o) (h .walled)
 
   best-index : (o : ℕ) → bestOf s (lengthsIn kind o) .found ≡ true → bestOf s (lengthsIn kind o) .index < s .live
   unfolding bestOf
   best-index o = scan-found _ (s .points) (s .live)
 
-  pick-best : pickOf (roomOf (s .container)) walls (s .held) (s .points) (s .live) kind turns ≡ pickBy (λ o. bestOf s (lengthsIn kind o)) turns
+  pick-best : pickOf (roomOf (s .container)) walls (s .held) (s .points) (s .live) kind (length hints) turns ≡ pickBy (λ o. bestOf s (lengthsIn kind o)) turns
   unfolding pickOf
   pick-best = pick-same _ _ turns choice-best
 
@@ -264,18 +293,25 @@ module _ (s : ExtremePointSet) (walls : List Float) (hints : List ℕ) (mass : F
     step-state label e =
         let f : pickAt .found ≡ true = sym (i .found-is) ∙ e in
         let l = picked-index f in
-        let few = h .few in
+        let p = spared .points-in in
         let size = lengthsIn kind (pickAt .orientation) in
-        let a = restock-in (s .container) (s .boxes) (s .held) (s .live) (s .points) (pickAt .index) size l (omega arith) room in
-        let b = box-in (s .boxes) (s .held) (three (s .points) (pickAt .index)) size room in
-        let c = triple-in (s .points) (pickAt .index) (omega arith) in
+        let a = restock-in (s .container) (s .boxes) (s .held) (s .live) (s .points) (pickAt .index) size l p (spared .boxes-in) in
+        let b = box-in (s .boxes) (s .held) (three (s .points) (pickAt .index)) size (spared .boxes-in) in
+        let c = triple-in (s .points) (pickAt .index) (omega (arith, p, l)) in
         rw (i .live-is, i .points-are, i .boxes-are, f, a, c, b)
+
+    boxes-then : r .found ≡ true → length (t .boxes) ≡ cells
+    unfolding afterBox
+    boxes-then e =
+        ap (λ (v : ExtremePointSet). length (v .boxes)) (step-state (labelOf kind 0) e) ∙ (box-long (s .boxes) (s .held) _ _ ∙ h .boxes-long)
 
     pub step-walls : r .found ≡ true → t .walls ≡ putWalls walls (t .boxes) (s .held) (askedOf (s .container))
     unfolding wallsAfter
     step-walls e =
         let f : pickAt .found ≡ true = sym (i .found-is) ∙ e in
-        i .walls-are ∙ rw (← (i .boxes-are), f) (walls-in walls (t .boxes) (s .held) (askedOf (s .container)) room)
+        let b = boxes-then e in
+        i .walls-are
+        ∙ rw (← (i .boxes-are), f) (walls-in walls (t .boxes) (s .held) (askedOf (s .container)) (spared .walls-in) (omega (arith, b, room)))
 
     pub step-steady : (label : Label) → r .found ≡ true → Steady (stateAfter label) (t .walls) (massWith mass (label .massed) (label .mass))
     step-steady label e =

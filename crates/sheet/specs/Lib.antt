@@ -3,3 +3,5 @@ pub mod Sheets
 pub mod Accepted
 pub mod Ids
 pub mod Columns
+pub mod Room
+pub mod Alike

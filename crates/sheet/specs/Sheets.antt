@@ -18,6 +18,17 @@ use Rattle.sheet.specs.declared.Counts.{Counts}
 use Rattle.sheet.specs.declared.Line.{Line}
 use Rattle.sheet.specs.declared.Sheet.{Sheet}
 
+-- the counts that bound a sheet: kinds, boxes of all kinds together, lines, unplaced ids
+pub record Most : Type 0 where
+  pub kinds : ℕ
+  pub boxes : ℕ
+  pub lines : ℕ
+  pub unplaced : ℕ
+
+-- those that hold
+abbrev pub mostNow : Most
+mostNow = record { kinds = mostKinds; boxes = mostBoxes; lines = mostLines; unplaced = mostUnplaced }
+
 -- ---- what stands past a list's end, which nothing reads
 abbrev pub noKind : Kind
 noKind = record { id = 0; quantity = 0; size = []; mass = nan; rule = 0; massed = 0; filler = 0 }
@@ -53,8 +64,11 @@ abbrev pub unplacedAt : Sheet → ℕ → ℕ
 unplacedAt s i = getD (s .unplaced) i 0
 
 -- ---- 2: more kinds, lines or unplaced ids than there can be
+abbrev pub overCountBy : Most → Counts → Bool
+overCountBy b m = ltb (b .kinds) (m .kinds) || (ltb (b .lines) (m .lines) || ltb (b .unplaced) (m .unplaced))
+
 abbrev pub overCount : Counts → Bool
-overCount m = ltb mostKinds (m .kinds) || (ltb mostLines (m .lines) || ltb mostUnplaced (m .unplaced))
+overCount m = overCountBy mostNow m
 
 -- ---- kind by kind: 4, 3, 5
 -- the id is one of the first n, of a list for as many ids as there may be kinds
@@ -90,11 +104,15 @@ unfolding lineFault
 lineFaultIn lines i = lineFault (getD lines i noLine)
 
 -- ---- the counts, the container, kind by kind, the total, line by line: the first that gives a number
-unfoldable pub sheetRefusal : Sheet → ℕ
-unfolding orElse
-sheetRefusal s =
-    orElse (when (overCount (s .many)) 2)
+abbrev pub sheetRefusalBy : Most → Sheet → ℕ
+sheetRefusalBy b s =
+    orElse (when (overCountBy b (s .many)) 2)
     (orElse (when (containerFault (s .container)) 3)
     (orElse (firstBelow (kindFaultIn (s .kinds)) (s .many .kinds))
-    (orElse (when (ltb mostBoxes (sumBelow (quantityOf (s .kinds)) (s .many .kinds))) 2)
+    (orElse (when (ltb (b .boxes) (sumBelow (quantityOf (s .kinds)) (s .many .kinds))) 2)
     (firstBelow (lineFaultIn (s .lines)) (s .many .lines)))))
+
+-- by the counts that hold
+unfoldable pub sheetRefusal : Sheet → ℕ
+unfolding orElse
+sheetRefusal s = sheetRefusalBy mostNow s

@@ -8,6 +8,8 @@ ghost use Rattle.lists.specs.Below.{sumBelow};
 ghost use Rattle.domain.specs.Refusals.{firstBelow};
 ghost use Rattle.sheet.specs.Sheets.{blankKind, blankLine, emptySheet, among, idsBelow};
 ghost use Rattle.sheet.specs.Sheets.{overCount, quantityOf, kindFaultIn, lineFault, lineFaultIn, sheetRefusal};
+ghost use Rattle.sheet.specs.Columns.{columns};
+ghost use Rattle.sheet.specs.Room.{hasRoom};
 use measures::Container;
 use measures::Kind;
 
@@ -206,4 +208,21 @@ pub fn sheet_refusal(s: Sheet) -> u32
     let total = domain::given(total_quantity(kinds, n) > domain::MOST_BOXES as u64, 2);
     let line = lines_fault(lines, m);
     domain::or_else(block, domain::or_else(kind, domain::or_else(total, line)))
+}
+
+// Whether six lent columns have a cell each for n lines.
+pub fn has_room(
+    ids: &[u32],
+    instances: &[u32],
+    turns: &[u32],
+    xs: &[f64],
+    ys: &[f64],
+    zs: &[f64],
+    n: usize,
+) -> bool
+    ensures { λ r. ⌜ r ≡ hasRoom
+        (columns (now (ids .entry)) (now (instances .entry)) (now (turns .entry)) (now (xs .entry)) (now (ys .entry)) (now (zs .entry))) n ⌝ }
+{
+    let names = (n <= ids.len()) & ((n <= instances.len()) & (n <= turns.len()));
+    names & ((n <= xs.len()) & ((n <= ys.len()) & (n <= zs.len())))
 }

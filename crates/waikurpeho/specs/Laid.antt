@@ -24,7 +24,7 @@ use Rattle.file_read.specs.Refusal.{sheet-sound}
 use Rattle.file_read.specs.Records.{sectionsOf, many-is}
 use Rattle.file_write.specs.declared.Written.{Written}
 use Rattle.file_write.specs.Writing.{lineNumbers, linesFrom, fileLength, writtenOf, bytesAfter}
-use Rattle.file_write.specs.Planned.{overPlan, planWritten, planAfter}
+use Rattle.file_write.specs.Planned.{overCounts, overPlan, planWritten, planAfter}
 use Rattle.file_write.specs.PlanStores as Stores
 use Rattle.file_write.specs.PlanStores.{Holds, holds}
 use Rattle.file_read.specs.declared.records.Sections.{Sections}
@@ -37,9 +37,12 @@ use Rattle.plan_sheet.specs.declared.Told.{Told}
 use Rattle.plan_sheet.specs.Plans.{Plan, planRefusal, refusedPlan}
 use Rattle.plan_sheet.specs.Planned.{PlanSheet, plannedSheet, sheetFrom}
 use Rattle.plan_sheet.specs.Laid.{planIn, toldOf, placedAt, laidIn, Lays}
+use Rattle.plan_sheet.specs.LaidLaws.{laid-roomy}
+use Rattle.plan_sheet.specs.Room.{fitting, Roomy}
 use Rattle.plan_laws.specs.Accepted.{Taken, Lists, points-accepted, points-lists, layers-accepted, layers-lists}
 use Rattle.plan_laws.specs.Laid as Laws
-use Rattle.plan_laws.specs.Laid.{laidLeft, left-made, Long, line-laid, sections-are}
+use Rattle.plan_laws.specs.Laid.{laidLeft, left-made, line-laid, sections-are}
+use Rattle.plan_laws.specs.Fits.{Modest, points-modest, layers-modest, Fits, fits-small, fits-long, long-room}
 use Rattle.plan_laws.specs.Bins.{points-bins, layers-bins}
 use Rattle.point_run.specs.Runs.{epPackingOf}
 use Rattle.layer_plan.specs.Fills.{layerFillOf}
@@ -52,7 +55,7 @@ abbrev pub laidCounts : List ℕ → Told → Columns → Counts
 laidCounts f t c = record { kinds = sectionsOf f .many .kinds; lines = t .placed; unplaced = laidLeft f t c .count }
 
 abbrev pub laidWritten : List ℕ → Told → Columns → ℕ → Written
-laidWritten f t c room = planWritten (length f) (laidCounts f t c) room
+laidWritten f t c room = planWritten (length f) (laidCounts f t c) c room
 
 unfoldable pub laidAnswer : List ℕ → Told → Columns → ℕ → ℕ
 laidAnswer f t c room =
@@ -74,21 +77,21 @@ pub record WritesLaid (f : List ℕ) (t : Told) (c : Columns) (out old : List �
   pub figures-are : figures ≡ laidFigures f t c (length out) old
 
 -- the length told is far below 2^32
-pub written-few : (n : ℕ) (m : Counts) (room : ℕ) → planWritten n m room .length < unit
+pub written-few : (n : ℕ) (m : Counts) (c : Columns) (room : ℕ) → planWritten n m c room .length < unit
 unfolding planWritten
-written-few n m room = go (overPlan m) refl (ltb n (linesFrom m)) (leb (fileLength m) room)
+written-few n m c room = go (overPlan m c) refl (ltb n (linesFrom m)) (leb (fileLength m) room)
   where
     few : Holds m → fileLength m < unit
-    few h = let a = h .kinds in let b = h .lines in let c = h .left in omega arith
+    few h = let a = h .kinds in let b = h .lines in let u = h .left in omega arith
 
-    go : (b : Bool) → overPlan m ≡ b → (d e : Bool)
+    go : (b : Bool) → overPlan m c ≡ b → (d e : Bool)
         → cond {A = Written} b (record { refused = 2; length = 0 })
         (cond {A = Written} d (record { refused = 1; length = 0 })
         (cond {A = Written} e (record { refused = 0; length = fileLength m }) (record { refused = 6; length = fileLength m }))) .length < unit
     go true h d e = omega arith
     go false h true e = omega arith
-    go false h false true = few (holds m h)
-    go false h false false = few (holds m h)
+    go false h false true = few (holds m (or-left (overCounts m) _ h))
+    go false h false false = few (holds m (or-left (overCounts m) _ h))
 
 -- what the calls behind the writing give, in its two ends
 module _ (f : List ℕ) (t : Told) (c : Columns) (out words : List ℕ) (s : Sections) (l : Left) (w : Written) (out′ : List ℕ) (r : ℕ) (z : t .refused ≡ 0)
@@ -159,7 +162,8 @@ fair order p t =
       ids-few = ltb-false mostKinds (p .unplaced) (or-right (ltb mostLines (p .placed)) _ q);
     }
 
-module _ (f : List ℕ) (bytes : Bytes f) (z : refusalOf f ≡ 0) (p : Plan) (sound : Sound (sheetOf f) p) (old : Columns) (long : Long old) where
+module _ (f : List ℕ) (bytes : Bytes f) (z : refusalOf f ≡ 0) (p : Plan) (sound : Sound (sheetOf f) p) (old : Columns)
+    (cells : Roomy old (p .placed)) where
   abbrev order : Sheet
   order = sheetOf f
 
@@ -179,10 +183,10 @@ module _ (f : List ℕ) (bytes : Bytes f) (z : refusalOf f ≡ 0) (p : Plan) (so
   order-accepted = sheet-sound f z
 
   count-is : left .count ≡ p .unplaced
-  count-is = Laws.count-is f z p (sound .lists) old long
+  count-is = Laws.count-is f z p (sound .lists) old cells
 
   ids-are : left .ids ≡ p .ids
-  ids-are = Laws.ids-are f z p (sound .lists) old long
+  ids-are = Laws.ids-are f z p (sound .lists) old cells
 
   counts-are : laidCounts f (toldOf p) cols ≡ sheet .many
   unfolding plannedSheet
@@ -191,7 +195,7 @@ module _ (f : List ℕ) (bytes : Bytes f) (z : refusalOf f ≡ 0) (p : Plan) (so
   -- line i of the sheet has the numbers of line i of the columns
   numbers-are : (i : ℕ) → i < p .placed → lineNumbers (placedAt p i) ≡ lineNumbers (columnLine cols i)
   unfolding lineNumbers
-  numbers-are i l = rw (sound .bins i l) (sym (ap lineNumbers (line-laid p old long (fair-plan .lines-few) i l)))
+  numbers-are i l = rw (sound .bins i l) (sym (ap lineNumbers (line-laid p old cells i l)))
 
   plans : Plans f cols (left .ids) sheet
   unfolding plannedSheet
@@ -206,11 +210,12 @@ module _ (f : List ℕ) (bytes : Bytes f) (z : refusalOf f ≡ 0) (p : Plan) (so
             table-at 0 mostUnplaced (λ j. getD (p .ids) j 0) mostKinds i 0 (omega arith) (let h = fair-plan .ids-few in omega arith)
             ∙ ap (λ (ids : List ℕ). getD ids i 0) (sym ids-are);
         left-few = fair-plan .ids-few;
+        cells = laid-roomy old p (p .placed) cells;
       }
 
   written-is : (room : ℕ) → laidWritten f (toldOf p) cols room ≡ writtenOf sheet room
   written-is room =
-      ap (λ (m : Counts). planWritten (length f) m room) counts-are
+      ap (λ (m : Counts). planWritten (length f) m cols room) counts-are
       ∙ plan-answer f bytes z cols (left .ids) sheet plans (sound .taken .sheet-accepted) room
 
   abbrev wordOf : Written → ℕ
@@ -259,27 +264,27 @@ module _ (f : List ℕ) (bytes : Bytes f) (z : refusalOf f ≡ 0) (p : Plan) (so
 -- ---- of the plan of an order in a load file it is the plan call's answer
 
 module _ (planOf : Planner) (f : List ℕ) (bytes : Bytes f) (consider : ℕ) (sound : refusalOf f ≡ 0 → Sound (sheetOf f) (planOf (sheetOf f) consider))
-    (old : Columns) (long : Long old) where
+    (old : Columns) (cells : Roomy old (planIn planOf f consider .placed)) where
   abbrev plan : Plan
   plan = planIn planOf f consider
 
   answer-same : (room : ℕ) (b : Bool) → eqb (refusalOf f) 0 ≡ b → laidAnswer f (toldOf plan) (laidIn old plan) room ≡ orderAnswer planOf f consider room
   unfolding planIn orderAnswer readOf laidAnswer refusedPlan
   answer-same room true e =
-      let z = eqb-true (refusalOf f) 0 e in rw e (answer-laid f bytes z (planOf (sheetOf f) consider) (sound z) old long room)
+      let z = eqb-true (refusalOf f) 0 e in rw e (answer-laid f bytes z (planOf (sheetOf f) consider) (sound z) old (rw e at cells) room)
   answer-same room false e = rw e (rw e)
 
   bytes-same : (out : List ℕ) (b : Bool) → eqb (refusalOf f) 0 ≡ b → laidBytes f (toldOf plan) (laidIn old plan) out ≡ orderBytes planOf f consider out
   unfolding planIn orderBytes readOf laidBytes refusedPlan
   bytes-same out true e =
-      let z = eqb-true (refusalOf f) 0 e in rw e (bytes-laid f bytes z (planOf (sheetOf f) consider) (sound z) old long out)
+      let z = eqb-true (refusalOf f) 0 e in rw e (bytes-laid f bytes z (planOf (sheetOf f) consider) (sound z) old (rw e at cells) out)
   bytes-same out false e = rw e (rw e)
 
   figures-same : (room : ℕ) (words : List ℕ) (b : Bool) → eqb (refusalOf f) 0 ≡ b
       → laidFigures f (toldOf plan) (laidIn old plan) room words ≡ orderFigures planOf f consider room words
   unfolding planIn orderFigures readOf laidFigures refusedPlan
   figures-same room words true e =
-      let z = eqb-true (refusalOf f) 0 e in rw e (figures-laid f bytes z (planOf (sheetOf f) consider) (sound z) old long room words)
+      let z = eqb-true (refusalOf f) 0 e in rw e (figures-laid f bytes z (planOf (sheetOf f) consider) (sound z) old (rw e at cells) room words)
   figures-same room words false e = rw e (rw e)
 
   pub answers : (t : Told) (c : Columns) (out words : List ℕ) (r : ℕ) (out′ words′ : List ℕ) → Lays plan t old c → WritesLaid f t c out words r out′ words′
@@ -309,3 +314,43 @@ layers-sound f consider z =
       lists = layers-lists (sheetOf f) consider h;
       bins = λ i _. layers-bins (sheetOf f) consider h i;
     }
+
+-- ---- either placer, in columns of either size
+
+-- the placer that a call is for: extreme points, or layers
+abbrev pub placerOf : Bool → Planner
+placerOf true = epPackingOf
+placerOf false = layerFillOf
+
+-- laid by it
+pub lays-by : (b points : Bool) (f : List ℕ) (consider : ℕ) (t : Told) (old new : Columns) → points ≡ b
+    → Lays (fitting old (planIn (placerOf b) f consider)) t old new → Lays (fitting old (planIn (placerOf points) f consider)) t old new
+lays-by b points f consider t old new e l = rw e l
+
+module _ (points : Bool) (f : List ℕ) (bytes : Bytes f) (consider : ℕ) (old : Columns) (t : Told) (c : Columns)
+    (l : Lays (fitting old (planIn (placerOf points) f consider)) t old c) where
+  modest : Modest (planIn (placerOf points) f consider)
+  modest = go points
+    where
+      go : (b : Bool) → Modest (planIn (placerOf b) f consider)
+      go true = points-modest f consider
+      go false = layers-modest f consider
+
+  sound-by : refusalOf f ≡ 0 → Sound (sheetOf f) (placerOf points (sheetOf f) consider)
+  sound-by z = go points
+    where
+      go : (b : Bool) → Sound (sheetOf f) (placerOf b (sheetOf f) consider)
+      go true = points-sound f consider z
+      go false = layers-sound f consider z
+
+  module _ (out words : List ℕ) (r : ℕ) (out′ words′ : List ℕ) (w : WritesLaid f t c out words r out′ words′) where
+    -- columns with a cell for each line that there may be
+    pub answers-long : Roomy old mostLines → Answers (placerOf points) f consider out words r out′ words′
+    answers-long long =
+        answers (placerOf points) f bytes consider sound-by old (long-room old modest long) t c out words r out′ words′ (rw (fits-long old modest long) at l) w
+
+    -- others, where that is not refused by 6
+    pub answers-few : (t .refused ≡ 6 → ⊥) → Answers (placerOf points) f consider out words r out′ words′
+    answers-few n =
+        let fits = fits-small old (planIn (placerOf points) f consider) modest (λ e. n (ap (λ (v : Told). v .refused) (l .told-is) ∙ e)) in
+        answers (placerOf points) f bytes consider sound-by old (fits .room) t c out words r out′ words′ (rw (fits .is-plan) at l) w

@@ -9,7 +9,9 @@ ghost use Rattle.point_run.specs.Runs.{epPackingOf};
 ghost use Rattle.layer_plan.specs.Fills.{layerFillOf};
 ghost use Rattle.sheet.specs.Columns.{columns};
 ghost use Rattle.waikurpeho.specs.Plan.{Answers};
-ghost use Rattle.waikurpeho.specs.Laid.{WritesLaid};
+ghost use Rattle.plan_sheet.specs.Laid.{planIn, Lays};
+ghost use Rattle.plan_sheet.specs.Room.{fitting};
+ghost use Rattle.waikurpeho.specs.Laid.{WritesLaid, placerOf};
 ghost use Rattle.waikurpeho.specs.Fill.{fillAnswer, fillAfter};
 use file_read::records;
 use plan_sheet::Told;
@@ -40,12 +42,12 @@ pub extern "C" fn wk_check(sheet: &[u8], findings: &mut [u64]) -> u64
 fn write_laid(
     order: &[u8],
     told: Told,
-    ids: &[u32; domain::MOST_LINES],
-    instances: &[u32; domain::MOST_LINES],
-    turns: &[u32; domain::MOST_LINES],
-    xs: &[f64; domain::MOST_LINES],
-    ys: &[f64; domain::MOST_LINES],
-    zs: &[f64; domain::MOST_LINES],
+    ids: &[u32],
+    instances: &[u32],
+    turns: &[u32],
+    xs: &[f64],
+    ys: &[f64],
+    zs: &[f64],
     sheet: &mut [u8],
     figures: &mut [u64; 2],
 ) -> u64
@@ -82,7 +84,73 @@ fn write_laid(
     answer(0, w.length)
 }
 
-// The plan of an order by extreme points.
+// Lays the plan of an order in lent columns, by extreme points or by layers.
+fn lay(
+    points: bool,
+    order: &[u8],
+    consider: u64,
+    ids: &mut [u32],
+    instances: &mut [u32],
+    turns: &mut [u32],
+    xs: &mut [f64],
+    ys: &mut [f64],
+    zs: &mut [f64],
+) -> Told
+    ensures { λ r. ⌜ Lays
+        (fitting (columns (now (ids .entry)) (now (instances .entry)) (now (turns .entry)) (now (xs .entry)) (now (ys .entry)) (now (zs .entry)))
+        (planIn (placerOf points) (now (order .entry)) consider)) r
+        (columns (now (ids .entry)) (now (instances .entry)) (now (turns .entry)) (now (xs .entry)) (now (ys .entry)) (now (zs .entry)))
+        (columns (now (ids .exit)) (now (instances .exit)) (now (turns .exit)) (now (xs .exit)) (now (ys .exit)) (now (zs .exit))) ⌝ }
+{
+    if points {
+        return point_run::lay_points(order, consider, ids, instances, turns, xs, ys, zs);
+    }
+    layer_plan::lay_layers(order, consider, ids, instances, turns, xs, ys, zs)
+}
+
+// The plan of an order in columns with a cell for each line that there may be.
+fn plan_long(
+    points: bool,
+    order: &[u8],
+    consider: u64,
+    sheet: &mut [u8],
+    figures: &mut [u64; 2],
+) -> u64
+    ensures { λ r. ⌜ Answers (placerOf points) (now (order .entry)) consider (now (sheet .entry)) (now (figures .entry)) r (now (sheet .exit))
+        (now (figures .exit)) ⌝ }
+{
+    let mut ids = [0u32; domain::MOST_LINES];
+    let mut instances = [0u32; domain::MOST_LINES];
+    let mut turns = [0u32; domain::MOST_LINES];
+    let mut xs = [0.0; domain::MOST_LINES];
+    let mut ys = [0.0; domain::MOST_LINES];
+    let mut zs = [0.0; domain::MOST_LINES];
+    let told = lay(
+        points,
+        order,
+        consider,
+        &mut ids,
+        &mut instances,
+        &mut turns,
+        &mut xs,
+        &mut ys,
+        &mut zs,
+    );
+    write_laid(
+        order,
+        told,
+        &ids,
+        &instances,
+        &turns,
+        &xs,
+        &ys,
+        &zs,
+        sheet,
+        figures,
+    )
+}
+
+// The plan of an order by extreme points, in few cells where they do.
 #[no_mangle]
 pub extern "C" fn wk_plan_points(
     order: &[u8],
@@ -93,12 +161,12 @@ pub extern "C" fn wk_plan_points(
     ensures { λ r. ⌜ Answers epPackingOf (now (order .entry)) consider (now (sheet .entry)) (now (figures .entry)) r (now (sheet .exit))
         (now (figures .exit)) ⌝ }
 {
-    let mut ids = [0u32; domain::MOST_LINES];
-    let mut instances = [0u32; domain::MOST_LINES];
-    let mut orientations = [0u32; domain::MOST_LINES];
-    let mut xs = [0.0; domain::MOST_LINES];
-    let mut ys = [0.0; domain::MOST_LINES];
-    let mut zs = [0.0; domain::MOST_LINES];
+    let mut ids = [0u32; domain::FEW_LINES];
+    let mut instances = [0u32; domain::FEW_LINES];
+    let mut orientations = [0u32; domain::FEW_LINES];
+    let mut xs = [0.0; domain::FEW_LINES];
+    let mut ys = [0.0; domain::FEW_LINES];
+    let mut zs = [0.0; domain::FEW_LINES];
     let told = point_run::lay_points(
         order,
         consider,
@@ -109,6 +177,9 @@ pub extern "C" fn wk_plan_points(
         &mut ys,
         &mut zs,
     );
+    if told.refused == 6 {
+        return plan_long(true, order, consider, sheet, figures);
+    }
     write_laid(
         order,
         told,
@@ -123,7 +194,7 @@ pub extern "C" fn wk_plan_points(
     )
 }
 
-// The plan of an order by layers.
+// The plan of an order by layers, in few cells where they do.
 #[no_mangle]
 pub extern "C" fn wk_plan_layers(
     order: &[u8],
@@ -134,12 +205,12 @@ pub extern "C" fn wk_plan_layers(
     ensures { λ r. ⌜ Answers layerFillOf (now (order .entry)) consider (now (sheet .entry)) (now (figures .entry)) r (now (sheet .exit))
         (now (figures .exit)) ⌝ }
 {
-    let mut ids = [0u32; domain::MOST_LINES];
-    let mut instances = [0u32; domain::MOST_LINES];
-    let mut turned = [0u32; domain::MOST_LINES];
-    let mut xs = [0.0; domain::MOST_LINES];
-    let mut ys = [0.0; domain::MOST_LINES];
-    let mut zs = [0.0; domain::MOST_LINES];
+    let mut ids = [0u32; domain::FEW_LINES];
+    let mut instances = [0u32; domain::FEW_LINES];
+    let mut turned = [0u32; domain::FEW_LINES];
+    let mut xs = [0.0; domain::FEW_LINES];
+    let mut ys = [0.0; domain::FEW_LINES];
+    let mut zs = [0.0; domain::FEW_LINES];
     let laid = layer_plan::lay_layers(
         order,
         consider,
@@ -150,6 +221,9 @@ pub extern "C" fn wk_plan_layers(
         &mut ys,
         &mut zs,
     );
+    if laid.refused == 6 {
+        return plan_long(false, order, consider, sheet, figures);
+    }
     write_laid(
         order,
         laid,

@@ -4,7 +4,7 @@ use Rattle.check_list.proofs.rule_of.Statement.{statement}
 use Rattle.check_list.proofs.rule_of.Tie as tie
 
 returns : tie.Need-returns
-returns c = rw (c .tolerance .ensures, c .before .before .fair .ensures)
+returns c = rw (c .tolerance .ensures)
 
 pub rule-of-spec : {M : Type 1} → statement M
-rule-of-spec = tie.close (tie.spec (λ c κs. search needs) (λ c κs. search needs) returns)
+rule-of-spec = tie.close (tie.spec (λ c κs. search needs) returns)

@@ -9,5 +9,4 @@ unfolding distanceOf
 returns c = cc
 
 pub distance-spec : {M : Type 1} → statement M
-distance-spec =
-    tie.close (tie.spec (λ c. search needs) (λ c κs. search needs) (λ c. search needs) (λ c κs. search needs) (λ c. search needs) (λ c κs. search needs) (λ c κs. search needs) returns)
+distance-spec = tie.close (tie.spec (λ c κs. search needs) (λ c κs. search needs) returns)

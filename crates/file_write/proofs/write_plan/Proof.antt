@@ -1,14 +1,16 @@
 -- `write_plan` meets its contract: the guards in their order, then the parts of the file one after the other.
 use Prim.Native.Nat.{_≤_}
-use mathlib.Core.Path.{_≡_, refl, sym, _∙_}
-use mathlib.Core.Bool.{false}
+use mathlib.Core.Path.{_≡_, refl, sym, ap, _∙_}
+use mathlib.Core.Bool.{Bool, false, not, _||_}
+use Rattle.lists.specs.Bools.{or-left, or-right, not-true-of}
 use native.Mathlib.Omega.{arith}
 use lib.ListN.{length}
 use Rattle.sheet.specs.declared.Counts.{Counts}
 use Rattle.file_bytes.specs.Stores.{put-length}
 use Rattle.file_write.specs.Writing.{fileLength}
 use Rattle.sheet.specs.Columns.{Columns}
-use Rattle.file_write.specs.Planned.{overPlan}
+use Rattle.sheet.specs.Room.{Roomy, roomy}
+use Rattle.file_write.specs.Planned.{overCounts, overPlan}
 use Rattle.file_write.specs.PlanStores.{Holds, holds, plan-few, plan-put, told-over, told-short, told-room, told-written}
 use borrow.Author.Needs.{needs}
 use Rattle.file_write.proofs.write_plan.Statement.{statement}
@@ -28,19 +30,32 @@ columns s =
       zs = s .args .zs .now;
     }
 
--- past the first test the columns hold the counts
-within : (c : tie.Else1) → overPlan (many (c .before .before .before .before)) ≡ false
-within c = sym (c .before .over-plan .ensures) ∙ c .if1 .left
+abbrev start : tie.After-over-counts → tie.Start
+start c = c .before .before .before .before .before .before .before .before .before .before
 
-fine : (c : tie.Else1) → Holds (many (c .before .before .before .before))
-fine c = holds _ (within c)
+-- the first test
+over-is : (c : tie.After-over-counts) → (c .over-counts .result || not (c .before .has-room .result)) ≡ overPlan (many (start c)) (columns (start c))
+over-is c = both _ _ _ _ (c .over-counts .ensures) (ap not (c .before .has-room .ensures))
+  where
+    both : (a b p q : Bool) → a ≡ p → b ≡ q → (a || b) ≡ (p || q)
+    both a b p q d e = rw (d, e)
+
+-- past it the columns hold the counts
+within : (c : tie.Else1) → overPlan (many (start (c .before))) (columns (start (c .before))) ≡ false
+within c = sym (over-is (c .before)) ∙ c .if1 .left
+
+fine : (c : tie.Else1) → Holds (many (start (c .before)))
+fine c = holds _ (or-left _ _ (within c))
+
+cells : (c : tie.Else1) → Roomy (columns (start (c .before))) (start (c .before) .args .placed)
+cells c = roomy _ _ (not-true-of _ (or-right (overCounts (many (start (c .before)))) _ (within c)))
 
 -- past the third there is room
-room : (c : tie.Else3) → fileLength (many (c .before .before .before .before .before .before .before)) ≤ length (c .before .before .before .before .before .before .before .args .out .now)
+room : (c : tie.Else3) → fileLength (many (start (c .before .before .before .before))) ≤ length (start (c .before .before .before .before) .args .out .now)
 room c = let e = c .before .file-length .ensures in omega arith
 
 returns : tie.Need-returns
-returns c = let s = c .before .before .before .before in told-over _ (many s) (columns s) _ _ (sym (c .before .over-plan .ensures) ∙ c .if1 .taken)
+returns c = let s = start (c .before) in told-over _ (many s) (columns s) _ _ (sym (over-is (c .before)) ∙ c .if1 .taken)
 
 mul-start : tie.Need-mul-start
 mul-start c = let h = fine c in omega arith
@@ -50,7 +65,7 @@ add-start c = let h = fine c in omega arith
 
 returns-2 : tie.Need-returns-2
 returns-2 c =
-    let s = c .before .before .before .before .before in
+    let s = start (c .before .before) in
     told-short _ (many s) (columns s) _ _ (within (c .before)) (c .if2 .taken)
 
 file-length-requires : tie.Need-file-length-requires
@@ -60,7 +75,7 @@ returns-3 : tie.Need-returns-3
 returns-3 c =
     let n = c .before in
     let e = n .before .before in
-    let s = e .before .before .before .before in
+    let s = start (e .before) in
     told-room _ (many s) (columns s) _ _ _ (within e) (n .before .if2 .left) (n .file-length .ensures) (c .if3 .taken)
 
 put-columns-requires : tie.Need-put-columns-requires
@@ -69,7 +84,7 @@ put-columns-requires c κs =
     let h = fine (e .before .before .before) in
     let r = room e in
     let q = put-length (c .before .before .before .put-head .ensures) in
-    (h .lines, omega arith)
+    (h .lines, cells (e .before .before .before), omega arith)
 
 put-left-requires : tie.Need-put-left-requires
 put-left-requires c κs =
@@ -103,7 +118,7 @@ returns-4 c =
     let e = a .before .before in
     let n = e .before in
     let o = n .before .before in
-    let s = o .before .before .before .before in
+    let s = start (o .before) in
     told-written _ (many s) (columns s) _ _ _ _ (within o) (n .before .if2 .left) (n .file-length .ensures) (e .if3 .left)
     (plan-put _ (many s) (columns s) _ (n .before .if2 .left) (a .put-head .ensures) (k .put-columns .ensures) (u .put-left .ensures) (t .put-trailer .ensures))
 
@@ -111,6 +126,7 @@ pub write-plan-spec : {M : Type 1} → statement M
 write-plan-spec =
     tie.close
     (tie.spec
+    (λ c κs. search needs)
     (λ c κs. search needs)
     returns
     mul-start

@@ -6,6 +6,7 @@ use mathlib.Core.List.{List}
 use native.Mathlib.Omega.{arith}
 use borrow.Author.Tests.{ltb-true}
 use Rattle.lists.specs.Bools.{and-left}
+use Rattle.plan_unplaced.specs.Left.{reached-less}
 use Rattle.plan_unplaced.specs.Short.{distinctPlaced}
 use Rattle.plan_unplaced.specs.Distinct.{distinct-none, distinct-most, distinct-done}
 use Rattle.plan_unplaced.specs.Marks.{Marked, Adds, marked-none, adds-strangers}
@@ -21,14 +22,14 @@ abbrev μ-loop : tie.MeasureT-loop
 
 loop-holds : tie.Need-loop-holds Inv-loop μ-loop
 loop-holds c =
-    let a = c .before .args in (
+    let a = c .before .before .before .args in (
       omega arith,
       rw (c .no-marks .ensures) (marked-none (a .ids .now) (a .instances .now) (a .id) (a .quantity) (omega arith)),
       sym (distinct-none (a .ids .now) (a .instances .now) (a .id) (a .quantity)),
     )
 
 -- a turn's block begins among the n lines
-turn : (c : tie.In-loop Inv-loop μ-loop) → c .before .loop .j < c .before .before .before .args .n
+turn : (c : tie.In-loop Inv-loop μ-loop) → c .before .loop .j < c .before .before .before .before .before .args .n
 turn c = ltb-true _ _ (and-left _ _ (c .loop-test .taken))
 
 some-named-requires : tie.Need-some-named-requires Inv-loop μ-loop
@@ -38,8 +39,8 @@ mark-lines-requires : tie.Need-mark-lines-requires Inv-loop μ-loop
 mark-lines-requires c κs =
     let b = c .before .before .before in
     let e = b .block-end .ensures in
-    let s = b .before .before .before .before in
-    (omega arith, omega arith, s .pre .1, b .before .before .loop .inv .1)
+    let s = b .before .before .before .before .before .before in
+    (omega arith, reached-less _ (s .pre .1) (e .1), s .pre .2, b .before .before .loop .inv .1)
 
 -- the count after a block
 counted : (ids instances : List ℕ) (from to id q added count : ℕ) (seen : List Bool) → count ≡ distinctPlaced ids instances from id q
@@ -74,7 +75,7 @@ loop-again-2 c =
 
 returns : tie.Need-returns Inv-loop μ-loop
 returns c =
-    let a = c .before .before .before .args in
+    let a = c .before .before .before .before .before .args in
     let l = c .before .loop in
     distinct-done (a .ids .now) (a .instances .now) (l .j) (a .n) (a .id) (a .quantity) (l .count) (l .inv .0) (l .inv .2) (c .loop-test .left)
 

@@ -12,7 +12,7 @@ use Rattle.plan_unplaced.proofs.is_short.Tie as tie
 returns : tie.Need-returns
 unfolding isShort
 returns c =
-    let a = c .before .args in
+    let a = c .before .before .before .args in
     let m = distinct-most (a .ids .now) (a .instances .now) (a .n) (a .id) (a .quantity) in
     sym (lt-ltb (distinctPlaced (a .ids .now) (a .instances .now) (a .n) (a .id) (a .quantity)) (a .quantity) (omega arith))
 

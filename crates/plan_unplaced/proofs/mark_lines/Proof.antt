@@ -14,12 +14,15 @@ abbrev μ-loop : tie.MeasureT-loop
 μ-loop seen₀ ids instances from to id quantity count₀ j₀ seen count j = to - j
 
 loop-holds : tie.Need-loop-holds Inv-loop μ-loop
-loop-holds c = (omega arith, omega arith, omega arith, adds-none _ _ _ _ _ _ (c .pre .3))
+loop-holds c = (omega arith, omega arith, omega arith, adds-none _ _ _ _ _ _ (c .before .before .pre .3))
+
+abbrev start : tie.In-loop Inv-loop μ-loop → tie.Start Inv-loop μ-loop
+start i = i .before .before .before .before
 
 mark-requires : tie.Need-mark-requires Inv-loop μ-loop
 mark-requires c κs =
     let i = c .before .before .before in
-    (i .before .before .pre .2, i .before .loop .inv .3 .after .spare)
+    (start i .pre .2, i .before .loop .inv .3 .after .spare)
 
 loop-again : tie.Need-loop-again Inv-loop μ-loop
 loop-again c =
@@ -29,11 +32,11 @@ loop-again c =
       omega arith,
       omega arith,
       omega arith,
-      adds-more _ _ _ _ _ _ _ _ _ _ (i .before .before .pre .2) (l .inv .3) (c .mark .ensures .0) (c .mark .ensures .2),
+      adds-more _ _ _ _ _ _ _ _ _ _ (start i .pre .2) (l .inv .3) (c .mark .ensures .0) (c .mark .ensures .2),
     )
 
 returns : tie.Need-returns Inv-loop μ-loop
-returns c = let e : c .before .loop .j ≡ c .before .before .args .to = omega arith in rw e at (c .before .loop .inv .3)
+returns c = let e : c .before .loop .j ≡ c .before .before .before .before .args .to = omega arith in rw e at (c .before .loop .inv .3)
 
 pub mark-lines-spec : {M : Type 1} → statement M
 mark-lines-spec =

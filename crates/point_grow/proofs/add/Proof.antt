@@ -9,10 +9,11 @@ use Rattle.point_grow.proofs.add.Tie as tie
 returns : tie.Need-returns
 unfolding countWith pointsWith
 returns c =
-    let k = c .before .before in
+    let p = c .before .before in
+    let k = p .before .before in
     record {
       live-is = rw (k .if1 .taken);
-      points-are = c .put-triple .ensures ∙ (put-in _ _ _ (k .before .pre) ∙ rw (k .if1 .taken));
+      points-are = p .put-triple .ensures ∙ (put-in _ _ _ (k .before .before .pre) ∙ rw (k .if1 .taken));
     }
 
 returns-2 : tie.Need-returns-2
@@ -20,4 +21,4 @@ unfolding countWith pointsWith
 returns-2 c = record { live-is = rw (c .if1 .left); points-are = rw (c .if1 .left) }
 
 pub add-spec : {M : Type 1} → statement M
-add-spec = tie.close (tie.spec (λ c κs. search needs) (λ c. search needs) returns returns-2)
+add-spec = tie.close (tie.spec (λ c κs. search needs) (λ c. search needs) (λ c. search needs) returns returns-2)

@@ -47,13 +47,14 @@ chosen c =
 
 settle-requires : tie.Need-settle-requires
 settle-requires c κs =
-    let r = ready-at (c .before .before .before .before .before .before .before .before) in
-    omega (arith, chosen (c .before .before .before .before))
+    let e = c .before .before .before .before .before in
+    let r = ready-at (e .before .before .before .before) in
+    omega (arith, chosen e)
 
 returns-3 : tie.Need-returns-3
 unfolding triedOf placedBy
 returns-3 c =
-    let f = c .before .before .before .before .before in
+    let f = c .before .before .before .before .before .before in
     let b = f .before .before in
     let t = b .before .before in
     let s = t .before .before .args .t1 in

@@ -30,8 +30,8 @@ is-in c = let h = within-counts _ _ (fair (c .before)) .room in omega arith
 returns-3 : tie.Need-returns-3
 unfolding placedAt boxAt
 returns-3 c =
-    let t = c .before .before .before in
-    let e = t .before .before .before .before in
+    let t = c .before .before .before .before in
+    let e = t .before .before .before .before .before in
     let i = e .before .before .before .args .i in
     let b = is-in e in
     let boxes = e .before .before .before .args .t1 .boxes in
@@ -43,7 +43,7 @@ pub placed-box-spec : {M : Type 1} → statement M
 placed-box-spec =
     tie.close
     (tie.spec (λ c κs. tt) (λ c κs. tt) returns (λ c κs. tt) returns-2 (λ c. let h = is-in c in omega arith) is-in
-    (λ c. let h = is-in (c .before .before .before) in omega arith) (λ c κs. tt)
-    (λ c. let h = is-in (c .before .before .before .before .before .before) in omega arith)
-    (λ c. let h = is-in (c .before .before .before .before .before .before) in omega arith)
+    (λ c. let h = is-in (c .before .before .before .before) in omega arith) (λ c κs. tt)
+    (λ c. let h = is-in (c .before .before .before .before .before .before .before .before) in omega arith)
+    (λ c. let h = is-in (c .before .before .before .before .before .before .before .before) in omega arith)
     (λ c κs. tt) returns-3)

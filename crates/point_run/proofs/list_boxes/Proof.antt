@@ -3,7 +3,7 @@ use Prim.Native.Nat.{ℕ, _≤_, _<_, _-_}
 use mathlib.Core.Path.{_≡_, refl, sym, _∙_, ap}
 use mathlib.Core.List.{List}
 use native.Mathlib.Omega.{arith}
-use borrow.Author.Needs.{needs}
+use lib.ListN.{length}
 use Rattle.lists.specs.Table.{filled}
 use Rattle.domain.specs.Bounds.{mostBoxes}
 use Rattle.measures.specs.declared.Kind.{Kind}
@@ -16,7 +16,7 @@ use Rattle.plan_boxes.specs.declared.Instance.{Instance}
 use Rattle.plan_boxes.specs.Turns.{turnOf}
 use Rattle.plan_boxes.specs.Files.{InFile, next-turn}
 use Rattle.point_run.specs.Order.{volumeOf}
-use Rattle.point_run.specs.Boxes.{Lists, listed-more}
+use Rattle.point_run.specs.Boxes.{Lists, listed-more, lists-long}
 use Rattle.point_run.proofs.list_boxes.Statement.{statement}
 use Rattle.point_run.proofs.list_boxes.Tie as tie
 
@@ -37,7 +37,7 @@ abbrev In : Type 0
 In = tie.In-loop Inv-loop μ-loop
 
 abbrev start : In → tie.Start Inv-loop μ-loop
-start c = c .before .before .before
+start c = c .before .before .before .before .before .before
 
 abbrev file : In → List ℕ
 file c = start c .args .f .now
@@ -46,17 +46,26 @@ below : (c : In) → c .before .loop .t < start c .args .n
 below c = omega arith
 
 room : (c : In) → c .before .loop .t < mostBoxes
-room c = let b = below c in let f = start c .pre .few in omega (arith, b, f)
+room c = let b = below c in let f = start c .pre .0 .few in omega (arith, b, f)
+
+which-room : (c : In) → c .before .loop .t < length (c .before .loop .which)
+which-room c = let b = below c in let f = start c .pre .1 in let e = lists-long (c .before .loop .inv .2) .which-long in omega (arith, b, f, e)
+
+copies-room : (c : In) → c .before .loop .t < length (c .before .loop .copies)
+copies-room c = let b = below c in let f = start c .pre .2 in let e = lists-long (c .before .loop .inv .2) .copies-long in omega (arith, b, f, e)
+
+volumes-room : (c : In) → c .before .loop .t < length (c .before .loop .volumes)
+volumes-room c = let b = below c in let f = start c .pre .3 in let e = lists-long (c .before .loop .inv .2) .volumes-long in omega (arith, b, f, e)
 
 -- the kind of the turn's box is one of the file's, and what is read there is the sheet's
 within : (c : In) → c .before .loop .u .kind < countsOf (file c) .kinds
 within c =
     let e = ap (λ (u : Instance). u .kind) (c .before .loop .inv .1) in
-    let h = start c .pre .kind-within (c .before .loop .t) (below c) in
+    let h = start c .pre .0 .kind-within (c .before .loop .t) (below c) in
     omega (arith, e, h)
 
 kind-read : (c : tie.After-kind-in Inv-loop μ-loop) → c .kind-in .result ≡ kindAt (sheetOf (file (c .before))) (c .before .before .loop .u .kind)
-kind-read c = c .kind-in .ensures ∙ kind-is _ _ (start (c .before) .pre .can-read) (within (c .before))
+kind-read c = c .kind-in .ensures ∙ kind-is _ _ (start (c .before) .pre .0 .can-read) (within (c .before))
 
 -- its volume is the box's
 volume-read : (c : tie.After-kind-in Inv-loop μ-loop) → volume (c .kind-in .result .size) ≡ volumeOf (sheetOf (file (c .before)) .kinds) (c .before .before .loop .t)
@@ -69,7 +78,7 @@ loop-again c =
     let i = k .before in
     let l = i .before .loop in
     let w = within i in
-    let b = bounds _ (start i .pre .can-read) in
+    let b = bounds _ (start i .pre .0 .can-read) in
     let n = below i in (
       omega arith,
       c .next-box .ensures ∙ next-turn _ _ _ _ (l .inv .1) (kind-read k) (omega arith),
@@ -78,7 +87,7 @@ loop-again c =
     )
 
 returns : tie.Need-returns Inv-loop μ-loop
-returns c = let e : c .before .loop .t ≡ c .before .before .before .args .n = omega arith in rw e at (c .before .loop .inv .2)
+returns c = let e : c .before .loop .t ≡ c .before .before .before .before .before .before .args .n = omega arith in rw e at (c .before .loop .inv .2)
 
 pub list-boxes-spec : {M : Type 1} → statement M
 list-boxes-spec =
@@ -87,16 +96,19 @@ list-boxes-spec =
     Inv-loop
     μ-loop
     loop-holds
-    (λ c κs. search needs)
+    (λ c κs. tt)
     (λ c. let r = room (c .before) in omega (arith, r))
-    (λ c. room (c .before))
+    (λ c. which-room (c .before))
     (λ c. let r = room (c .before) in omega (arith, r))
-    (λ c. room (c .before))
-    (λ c κs. search needs)
+    (λ c. copies-room (c .before))
+    (λ c κs. tt)
     (λ c. let r = room (c .before .before .before) in omega (arith, r))
-    (λ c. room (c .before .before .before))
-    (λ c κs. search needs)
+    (λ c. volumes-room (c .before .before .before))
+    (λ c κs. tt)
     (λ c. let r = room (c .before .before .before .before) in omega (arith, r))
     (λ c. omega arith)
     loop-again
+    (λ c. lists-long (c .before .loop .inv .2) .which-long)
+    (λ c. lists-long (c .before .loop .inv .2) .copies-long)
+    (λ c. lists-long (c .before .loop .inv .2) .volumes-long)
     returns)

@@ -21,8 +21,8 @@ loop-holds c = (omega arith, refl)
 loop-again : tie.Need-loop-again Inv-loop μ-loop
 unfolding volumeBelow
 loop-again c =
-    let l = c .before .before .before .loop in
-    let e = triple-in (c .before .before .before .before .args .boxes .now) (2 * l .i + 1) (omega arith) in
+    let l = c .before .before .before .before .loop in
+    let e = triple-in (c .before .before .before .before .before .args .boxes .now) (2 * l .i + 1) (omega arith) in
     (omega arith, rw (c .measure .ensures, c .before .triple-at .ensures, e, l .inv .1, add-one (l .i)))
 
 returns : tie.Need-returns Inv-loop μ-loop

@@ -1,20 +1,46 @@
--- `waikurpeho::wk_plan_layers` meets its contract: what is written of the plan laid in the columns is the planned sheet.
-use mathlib.Core.Path.{refl}
+-- `waikurpeho::wk_plan_layers` meets its contract: the plan laid in few cells, where they do, or laid again in as many as there may be lines.
+use mathlib.Core.Path.{refl, sym}
+use mathlib.Core.Bool.{false}
 use native.Mathlib.Omega.{arith}
 use borrow.Author.Needs.{needs}
-use Rattle.layer_plan.specs.Fills.{layerFillOf}
-use Rattle.waikurpeho.specs.Laid.{answers, layers-sound}
+use Rattle.waikurpeho.specs.Laid.{answers-few}
 use Rattle.waikurpeho.proofs.wk_plan_layers.Statement.{statement}
 use Rattle.waikurpeho.proofs.wk_plan_layers.Tie as tie
 
 returns : tie.Need-returns
-returns c =
-    let a = c .before .before .before .before .before .before .before .before .before .before .before .before .before .before .before .before .before .before .before .before .args in
-    answers layerFillOf (a .order .now) (λ i. omega (arith, c .before .before .before .before .before .before .before .before .before .before .before .before .before .before .before .before .before .before .before .shared-slice-known .given i)) (a .consider)
-    (layers-sound (a .order .now) (a .consider)) _
-    (record { ids-long = refl; instances-long = refl; turns-long = refl; xs-long = refl; ys-long = refl; zs-long = refl })
-    _ _ _ _ _ _ _ (c .before .before .before .before .before .before .before .before .before .before .before .lay-layers .ensures)
-    (c .before .before .write-laid .ensures)
+returns c = c .before .before .plan-long .ensures
+
+returns-2 : tie.Need-returns-2
+returns-2 c =
+    let w = c .before .before in
+    let e = w .before .before .before .before .before .before .before .before .before in
+    let l = e .before .before .before .before .before .before .before .before in
+    let k = l .before .before .before .before .before .before .before .before in
+    let a = k .before .args in
+    answers-few false (a .order .now) (λ i. omega (arith, k .shared-slice-known .given i)) (a .consider) _ _ _ (l .lay-layers .ensures) _ _ _ _ _
+    (w .write-laid .ensures)
+    (e .if1 .left)
 
 pub wk-plan-layers-spec : {M : Type 1} → statement M
-wk-plan-layers-spec = tie.close (tie.spec (λ c κs. search needs) (λ c κs. search needs) (λ c. search needs) returns)
+wk-plan-layers-spec =
+    tie.close
+    (tie.spec
+    (λ c. refl)
+    (λ c. refl)
+    (λ c. refl)
+    (λ c. refl)
+    (λ c. refl)
+    (λ c. refl)
+    (λ c κs. search needs)
+    (λ c κs. search needs)
+    (λ c. search needs)
+    returns
+    (λ c. sym (c .before .before .before .before .before .before .before .before .before .lay-layers .kept .1 .1 .0))
+    (λ c. sym (c .before .before .before .before .before .before .before .before .before .before .lay-layers .kept .1 .1 .1 .0))
+    (λ c. sym (c .before .before .before .before .before .before .before .before .before .before .before .lay-layers .kept .1 .1 .1 .1 .0))
+    (λ c. sym (c .before .before .before .before .before .before .before .before .before .before .before .before .lay-layers .kept .1 .1 .1 .1 .1 .0))
+    (λ c. sym (c .before .before .before .before .before .before .before .before .before .before .before .before .before .lay-layers .kept .1 .1 .1 .1 .1 .1 .0))
+    (λ c. sym (c .before .before .before .before .before .before .before .before .before .before .before .before .before .before .lay-layers .kept .1 .1 .1 .1 .1 .1 .1 .0))
+    (λ c κs. search needs)
+    (λ c. search needs)
+    returns-2)

@@ -13,7 +13,7 @@ returns c =
     record { answer-is = c .answer .ensures ∙ rw t; bytes-are = rw t; figures-are = rw t }
 
 answer-requires-2 : tie.Need-answer-requires-2
-answer-requires-2 c κs = rw (c .before .before .before .before .write-plan .ensures .answer) (written-few _ _ _)
+answer-requires-2 c κs = rw (c .before .before .before .before .write-plan .ensures .answer) (written-few _ _ _ _)
 
 returns-2 : tie.Need-returns-2
 returns-2 c =
@@ -27,7 +27,7 @@ returns-2 c =
     (c .before .if2 .taken) (c .answer2 .ensures)
 
 answer-requires-3 : tie.Need-answer-requires-3
-answer-requires-3 c κs = rw (c .before .before .before .before .before .write-plan .ensures .answer) (written-few _ _ _)
+answer-requires-3 c κs = rw (c .before .before .before .before .before .write-plan .ensures .answer) (written-few _ _ _ _)
 
 returns-3 : tie.Need-returns-3
 returns-3 c =

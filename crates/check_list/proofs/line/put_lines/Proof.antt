@@ -26,14 +26,14 @@ loop-holds c = (omega arith, omega arith, wrote-none _ _)
 put-name-requires : tie.Need-put-name-requires Inv-loop μ-loop
 put-name-requires c κs =
     let l = c .before .before .before .before .before .before .before in
-    omega (arith, l .loop .inv .0, l .loop .inv .1, l .before .before .before .before .pre .0)
+    omega (arith, l .loop .inv .0, l .loop .inv .1, l .before .before .before .before .before .before .before .pre .0 .few)
 
 put-place-requires : tie.Need-put-place-requires Inv-loop μ-loop
 put-place-requires c κs =
     let r = c .before .before .before in
     let l = r .before .before .before .before .before .before .before .before in
-    let s = l .before .before .before .before in
-    (omega (arith, r .put-name .ensures .1, l .loop .inv .0, l .loop .inv .1, s .pre .0), s .pre .1)
+    let s = l .before .before .before .before .before .before .before in
+    (omega (arith, r .put-name .ensures .1, l .loop .inv .0, l .loop .inv .1, s .pre .0 .few), s .pre .1)
 
 loop-again : tie.Need-loop-again Inv-loop μ-loop
 unfolding lineFound
@@ -54,7 +54,7 @@ add-i : tie.Need-add-i Inv-loop μ-loop
 add-i c =
     let r = c .before .before .before .before .before .before .before .before .before .before .before .before in
     let l = r .before .before in
-    omega (arith, r .before .loop-test .taken, l .before .before .before .before .pre .0)
+    omega (arith, r .before .loop-test .taken, l .before .before .before .before .before .before .before .pre .0 .few)
 
 loop-less : tie.Need-loop-less Inv-loop μ-loop
 loop-less c =
@@ -67,7 +67,7 @@ same-length c = wrote-length (c .before .loop .inv .2)
 returns : tie.Need-returns Inv-loop μ-loop
 returns c =
     let l = c .before in
-    let e : l .loop .i ≡ l .before .before .before .before .args .rule .lines = omega arith in
+    let e : l .loop .i ≡ l .before .before .before .before .before .before .before .args .rule .lines = omega arith in
     record { words = rw e at (l .loop .inv .2); few = omega arith }
 
 pub put-lines-spec : {M : Type 1} → statement M

@@ -5,10 +5,10 @@ use native.Mathlib.Numerals.{add-one}
 use native.Mathlib.Omega.{arith}
 use mathlib.Core.Bool.{_&&_}
 use lib.Dec.{ltb}
-use lib.ListN.{getD}
+use lib.ListN.{length, getD}
 use Rattle.domain.specs.Bounds.{mostKinds, mostLines, placeWithin}
 use Rattle.lists.specs.Below.{sumBelow}
-use Rattle.lists.specs.Table.{filled}
+use Rattle.lists.specs.Table.{filled, filled-length}
 use Rattle.sheet.specs.declared.Line.{Line}
 use Rattle.sheet.specs.Sheets.{lineAt, kindAt}
 use Rattle.file_read.specs.Reading.{sheetOf}
@@ -28,12 +28,23 @@ Inv-loop f which many firsts again₀ packed₀ m n start seen₀ i₀ again pac
 abbrev μ-loop : tie.MeasureT-loop
 μ-loop f which many firsts again₀ packed₀ m n start seen₀ i₀ again packed seen i = n - i
 
+-- the place where the function begins, from the loop
+abbrev start : tie.At-loop Inv-loop μ-loop → tie.Start Inv-loop μ-loop
+start l = l .before .before .before .before
+
 loop-holds : tie.Need-loop-holds Inv-loop μ-loop
 unfolding filled
-loop-holds c = let s = c .before in (omega arith, refl, rw (s .pre .1) (marked-start _ (sound _ _ (s .pre .0 .file-taken))))
+loop-holds c = let s = c .before .before .before in (omega arith, refl, rw (s .pre .1 .0) (marked-start _ (sound _ _ (s .pre .0 .file-taken))))
 
-inside : (c : tie.In-loop Inv-loop μ-loop) → c .before .before .before .args .a .lines ≤ mostLines
-inside c = few-lines _ _ (c .before .before .before .pre .0 .file-taken)
+inside : (c : tie.In-loop Inv-loop μ-loop) → start (c .before) .args .a .lines ≤ mostLines
+inside c = few-lines _ _ (start (c .before) .pre .0 .file-taken)
+
+-- line i has a cell of both columns
+in-which : (c : tie.In-loop Inv-loop μ-loop) → c .before .loop .i < length (start (c .before) .args .which .now)
+in-which c = let h = start (c .before) .pre .1 .1 .0 in let l = c .loop-test .taken in omega arith
+
+in-again : (c : tie.In-loop Inv-loop μ-loop) → c .before .loop .i < length (start (c .before) .args .again .now)
+in-again c = let h = start (c .before) .pre .1 .1 .1 in let l = c .loop-test .taken in omega arith
 
 loop-again : tie.Need-loop-again Inv-loop μ-loop
 unfolding filled
@@ -43,7 +54,7 @@ loop-again c =
     let p = o .before .before .before .before .before in
     let r = p .before .before in
     let l = r .before .before in
-    let s = l .before .before in
+    let s = start l in
     let q = s .pre .0 in
     let t = q .file-taken in
     let i = l .loop .i in
@@ -69,7 +80,7 @@ returns : tie.Need-returns Inv-loop μ-loop
 unfolding packed
 returns c =
     let l = c .before in
-    let s = l .before .before in
+    let s = start l in
     let t = s .pre .0 .file-taken in
     let v = l .loop .inv in
     let e : l .loop .i ≡ s .args .a .lines = omega arith in
@@ -78,9 +89,11 @@ returns c =
 abbrev place-of-line : (c : tie.After-one-if Inv-loop μ-loop) → tie.After-place-within Inv-loop μ-loop
 place-of-line c = c .before .before .before .before .before .before
 
-one-more : (c : tie.After-one-if Inv-loop μ-loop)
-    → _≤_ (c .before .before .before .before .before .before .before .before .before .before .before .before .args .a .lines) mostLines
+one-more : (c : tie.After-one-if Inv-loop μ-loop) → _≤_ (start (place-of-line c .before .before .before .before) .args .a .lines) mostLines
 one-more c = inside (place-of-line c .before .before .before)
+
+same-length : tie.Need-same-length Inv-loop μ-loop
+same-length c = rw (c .before .loop .inv .1) (filled-length _ _ _)
 
 add-packed : tie.Need-add-packed Inv-loop μ-loop
 add-packed c =
@@ -98,11 +111,11 @@ mark-columns-spec =
     μ-loop
     loop-holds
     (λ c κs. search needs)
-    (λ c. omega (arith, inside (c .before)))
-    (λ c. omega (arith, inside (c .before)))
+    (λ c. search needs)
+    (λ c. in-which (c .before .before))
     (λ c κs. search needs)
-    (λ c. omega (arith, inside (c .before .before .before)))
-    (λ c. omega (arith, inside (c .before .before .before)))
+    (λ c. search needs)
+    (λ c. in-which (c .before .before .before .before))
     (λ c. omega (arith, c .before .place-within .ensures .1))
     (λ c. omega (arith, c .before .place-within .ensures .1))
     (λ c. omega (arith, c .before .before .before .place-within .ensures .1))
@@ -110,7 +123,7 @@ mark-columns-spec =
     (λ c κs. search needs)
     (λ c. omega (arith, c .slot .ensures .1))
     (λ c κs. search needs)
-    (λ c. omega (arith, one-more c))
+    (λ c. rw (place-of-line c .before .before .before .before .loop .inv .1, filled-length) (in-again (place-of-line c .before .before .before)))
     (λ c. omega (arith, c .before .slot .ensures .1))
     (λ c. omega (arith, place-of-line c .place-within .ensures .1))
     (λ c. omega (arith, place-of-line c .place-within .ensures .1))
@@ -120,4 +133,5 @@ mark-columns-spec =
     (λ c. omega (arith, one-more (c .before)))
     (λ c. omega arith)
     loop-again
+    same-length
     returns)

@@ -4,7 +4,7 @@ use Prim.Native.Nat.{_≤_, _-_}
 use native.Mathlib.Omega.{arith}
 use native.Mathlib.Numerals.{add-one}
 use Rattle.lists.specs.Table.{filled, table}
-use Rattle.file_read.specs.Reading.{idsOf}
+use Rattle.file_read.specs.Reading.{idsBy, idsOf}
 use borrow.Author.Needs.{needs}
 use Rattle.file_read.proofs.read.ids_of.Statement.{statement}
 use Rattle.file_read.proofs.read.ids_of.Tie as tie
@@ -16,11 +16,11 @@ abbrev μ-loop : tie.MeasureT-loop
 μ-loop f start n ids₀ i₀ ids i = n - i
 
 loop-holds : tie.Need-loop-holds Inv-loop μ-loop
-unfolding idsOf filled
+unfolding idsBy filled
 loop-holds c = (omega arith, refl)
 
 loop-again : tie.Need-loop-again Inv-loop μ-loop
-unfolding idsOf filled
+unfolding idsBy filled
 loop-again c = (omega arith, rw (add-one, ← (c .before .before .loop .inv .1)) (rw (c .u32-at .ensures)))
 
 returns : tie.Need-returns Inv-loop μ-loop

@@ -4,7 +4,7 @@ use Prim.Native.Nat.{_≤_, _-_}
 use native.Mathlib.Omega.{arith}
 use native.Mathlib.Numerals.{add-one}
 use Rattle.lists.specs.Table.{filled, table}
-use Rattle.file_read.specs.Reading.{kindsOf}
+use Rattle.file_read.specs.Reading.{kindsBy, kindsOf}
 use borrow.Author.Needs.{needs}
 use Rattle.file_read.proofs.read.kinds_of.Statement.{statement}
 use Rattle.file_read.proofs.read.kinds_of.Tie as tie
@@ -16,14 +16,14 @@ abbrev μ-loop : tie.MeasureT-loop
 μ-loop f n kinds₀ k₀ kinds k = n - k
 
 loop-holds : tie.Need-loop-holds Inv-loop μ-loop
-unfolding kindsOf filled
+unfolding kindsBy filled
 loop-holds c = (omega arith, rw (c .blank-kind .ensures))
 
 kind-at-requires : tie.Need-kind-at-requires Inv-loop μ-loop
 kind-at-requires c κs = omega arith
 
 loop-again : tie.Need-loop-again Inv-loop μ-loop
-unfolding kindsOf filled
+unfolding kindsBy filled
 loop-again c = (omega arith, rw (add-one, ← (c .before .before .loop .inv .1)) (rw (c .kind-at .ensures)))
 
 returns : tie.Need-returns Inv-loop μ-loop

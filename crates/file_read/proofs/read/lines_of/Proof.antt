@@ -4,7 +4,7 @@ use Prim.Native.Nat.{_≤_, _-_}
 use native.Mathlib.Omega.{arith}
 use native.Mathlib.Numerals.{add-one}
 use Rattle.lists.specs.Table.{filled, table}
-use Rattle.file_read.specs.Reading.{linesOf}
+use Rattle.file_read.specs.Reading.{linesBy, linesOf}
 use borrow.Author.Needs.{needs}
 use Rattle.file_read.proofs.read.lines_of.Statement.{statement}
 use Rattle.file_read.proofs.read.lines_of.Tie as tie
@@ -16,14 +16,14 @@ abbrev μ-loop : tie.MeasureT-loop
 μ-loop f start n lines₀ i₀ lines i = n - i
 
 loop-holds : tie.Need-loop-holds Inv-loop μ-loop
-unfolding linesOf filled
+unfolding linesBy filled
 loop-holds c = (omega arith, rw (c .blank-line .ensures))
 
 line-at-requires : tie.Need-line-at-requires Inv-loop μ-loop
 line-at-requires c κs = omega arith
 
 loop-again : tie.Need-loop-again Inv-loop μ-loop
-unfolding linesOf filled
+unfolding linesBy filled
 loop-again c = (omega arith, rw (add-one, ← (c .before .before .loop .inv .1)) (rw (c .line-at .ensures)))
 
 returns : tie.Need-returns Inv-loop μ-loop

@@ -41,13 +41,13 @@ unfolding columnsOut allBelow
 loop-again c =
     let l = c .before .before .before .before .before .before .before .before .before .before .before in
     let p = c .before .before .put-line .ensures in
-    (omega arith, put-length p ∙ l .loop .inv .1, rw add-one (then (l .loop .inv .2) (columns-length (columns (l .before .before)) (l .loop .i)) refl p))
+    (omega arith, put-length p ∙ l .loop .inv .1, rw add-one (then (l .loop .inv .2) (columns-length (columns (l .before .before .before .before .before .before .before .before)) (l .loop .i)) refl p))
 
 same-length : tie.Need-same-length Inv-loop μ-loop
 same-length c = c .before .loop .inv .1
 
 returns : tie.Need-returns Inv-loop μ-loop
-returns c = let e : c .before .loop .i ≡ c .before .before .before .args .n = omega arith in rw e at (c .before .loop .inv .2)
+returns c = let e : c .before .loop .i ≡ c .before .before .before .before .before .before .before .before .before .args .n = omega arith in rw e at (c .before .loop .inv .2)
 
 pub put-columns-spec : {M : Type 1} → statement M
 put-columns-spec =

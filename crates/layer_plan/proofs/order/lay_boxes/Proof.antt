@@ -18,7 +18,8 @@ use Rattle.plan_boxes.specs.Files.{next-box}
 use Rattle.layer_plan.specs.Run.{runFrom, offered}
 use Rattle.layer_plan.specs.Offers.{bestOffer}
 use Rattle.sheet.specs.Columns.{columns}
-use Rattle.layer_plan.specs.Columns.{Holds, shown-none, holds-more, run-long}
+use Rattle.plan_sheet.specs.Room.{AsLong, long-roomy}
+use Rattle.layer_plan.specs.Columns.{shown-alike, Holds, shown-none, holds-more, run-long}
 use Rattle.layer_plan.specs.Laid.{shows}
 use Rattle.layer_plan.proofs.order.lay_boxes.Statement.{statement}
 use Rattle.layer_plan.proofs.order.lay_boxes.Tie as tie
@@ -39,49 +40,57 @@ unfolding turnOf runFrom
 loop-holds c =
     (omega arith, omega arith, refl, record { stand-is = rw (c .new .ensures); count-is = refl; columns-are = shown-none _ _ refl })
 
+abbrev start : tie.At-loop Inv-loop μ-loop → tie.Start Inv-loop μ-loop
+start l = l .before .before .before .before .before .before .before .before .before .before
+
+-- the columns keep their lengths
+kept : (l : tie.At-loop Inv-loop μ-loop) → let a = start l .args in AsLong
+    (columns (a .ids .now) (a .instances .now) (a .turns .now) (a .xs .now) (a .ys .now) (a .zs .now))
+    (columns (l .loop .ids) (l .loop .instances) (l .loop .turns) (l .loop .xs) (l .loop .ys) (l .loop .zs))
+kept l = shown-alike _ _ _ (l .loop .inv .3 .columns-are)
+
 -- the kind of the turn's box is one of the file's, and what is read there is the sheet's
 within : (c : tie.After-kind-in Inv-loop μ-loop)
-    → c .before .before .loop .u .kind < countsOf (c .before .before .before .before .before .before .args .f .now) .kinds
+    → c .before .before .loop .u .kind < countsOf (c .before .before .before .before .before .before .before .before .before .before .before .before .args .f .now) .kinds
 within c =
     let l = c .before .before in
-    let s = l .before .before .before .before in
-    rw (l .loop .inv .2) (s .pre .kind-within (l .loop .t) (omega arith))
+    let s = l .before .before .before .before .before .before .before .before .before .before in
+    rw (l .loop .inv .2) (s .pre .0 .kind-within (l .loop .t) (omega arith))
 
 kind-read : (c : tie.After-kind-in Inv-loop μ-loop)
-    → c .kind-in .result ≡ kindAt (sheetOf (c .before .before .before .before .before .before .args .f .now)) (c .before .before .loop .u .kind)
-kind-read c = c .kind-in .ensures ∙ kind-is _ _ (c .before .before .before .before .before .before .pre .can-read) (within c)
+    → c .kind-in .result ≡ kindAt (sheetOf (c .before .before .before .before .before .before .before .before .before .before .before .before .args .f .now)) (c .before .before .loop .u .kind)
+kind-read c = c .kind-in .ensures ∙ kind-is _ _ (c .before .before .before .before .before .before .before .before .before .before .before .before .pre .0 .can-read) (within c)
 
 put-line-requires : tie.Need-put-line-requires Inv-loop μ-loop
 put-line-requires c κs =
     let p = c .before .before .before .before .before .before in
     let l = p .before .before .before in
-    let few = l .before .before .before .before .pre .few in
-    omega arith
+    long-roomy _ (kept l) (start l .pre .1) (omega arith)
 
 add-t : tie.Need-add-t Inv-loop μ-loop
 add-t c =
-    let p = c .before .before .before .before .before .before .before .before .before in
+    let p = c .before .before .before .before .before .before .before .before .before .before .before .before .before .before .before .before .before .before .before .before .before in
     let l = p .before .before .before in
-    let few = l .before .before .before .before .pre .few in
+    let few = start l .pre .0 .few in
     omega (arith, p .before .before .loop-test .taken)
 
 loop-again : tie.Need-loop-again Inv-loop μ-loop
 unfolding runFrom offered bestOffer turnOf quantityOf
 loop-again c =
-    let q = c .before .before in
+    let q = c .before .before .before .before .before .before .before .before .before .before .before .before .before .before in
     let p = q .before .before .before .before .before .before .before in
     let k = p .before in
     let l = k .before .before in
-    let s = l .before .before .before .before in
+    let s = l .before .before .before .before .before .before .before .before .before .before in
     let kinds = sheetOf (s .args .f .now) .kinds in
     let t = l .loop .t in
     let e = l .before .new .result .container in
     let g = runFrom (empty e) kinds (bestOffer kinds) t in
     let step = p .place-best .result in
     let h = l .loop .inv .3 in
-    let few = s .pre .few in
+    let few = s .pre .0 .few in
     let w = within k in
-    let b = bounds _ (s .pre .can-read) in
+    let b = bounds _ (s .pre .0 .can-read) in
     let r = kind-read k in
     let made : step ≡ placeBestOf (g .stand) (k .kind-in .result) = rw (← (h .stand-is)) (p .place-best .ensures) in
     let stays : step .fits ≡ false → step ≡ noStep (g .stand) = rw made (best-stays (g .stand) (k .kind-in .result)) in
@@ -97,9 +106,9 @@ loop-again c =
 returns : tie.Need-returns Inv-loop μ-loop
 returns c =
     let l = c .before .before in
-    let s = l .before .before .before .before in
+    let s = l .before .before .before .before .before .before .before .before .before .before in
     let e : l .loop .t ≡ s .args .n = omega arith in
-    let b = ap (λ (v : Stand). v .container) (l .before .new .ensures) ∙ l .before .before .container-in .ensures ∙ container-is _ (s .pre .can-read) in
+    let b = ap (λ (v : Stand). v .container) (l .before .new .ensures) ∙ l .before .before .container-in .ensures ∙ container-is _ (s .pre .0 .can-read) in
     rw (c .utilization .ensures) (shows _ _ _ _ _ _ (rw b at (rw e at (l .loop .inv .3))))
 
 pub lay-boxes-spec : {M : Type 1} → statement M
@@ -119,4 +128,10 @@ lay-boxes-spec =
     (λ c. omega arith)
     loop-again
     (λ c κs. search needs)
+    (λ c. kept (c .before .before) .ids)
+    (λ c. kept (c .before .before) .instances)
+    (λ c. kept (c .before .before) .turns)
+    (λ c. kept (c .before .before) .xs)
+    (λ c. kept (c .before .before) .ys)
+    (λ c. kept (c .before .before) .zs)
     returns)

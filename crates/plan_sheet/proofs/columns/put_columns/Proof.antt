@@ -27,7 +27,7 @@ loop-again : tie.Need-loop-again Inv-loop μ-loop
 unfolding rowBy
 loop-again c =
     let l = c .before .before .before .before .before .before .before .before .before .before .before .before .loop in
-    let a = c .before .before .before .before .before .before .before .before .before .before .before .before .before .before .args in
+    let a = c .before .before .before .before .before .before .before .before .before .before .before .before .before .before .before .before .before .before .before .before .args in
     let cols = columns (a .ids .now) (a .instances .now) (a .turns .now) (a .xs .now) (a .ys .now) (a .zs .now) in
     let r = c .before .before .before .before .line-for .ensures in
     let e : c .before .before .put-line .last .0 ≡ wrote (rowBy cols) 6 (suc (l .i)) (a .out .now) =
@@ -36,7 +36,7 @@ loop-again c =
     (omega arith, rw e k, rw add-one e)
 
 returns : tie.Need-returns Inv-loop μ-loop
-returns c = let e : c .before .loop .i ≡ c .before .before .before .args .n = omega arith in rw e at (c .before .loop .inv .2)
+returns c = let e : c .before .loop .i ≡ c .before .before .before .before .before .before .before .before .before .args .n = omega arith in rw e at (c .before .loop .inv .2)
 
 pub put-columns-spec : {M : Type 1} → statement M
 put-columns-spec =

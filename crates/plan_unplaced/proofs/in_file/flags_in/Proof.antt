@@ -26,13 +26,13 @@ loop-again : tie.Need-loop-again Inv-loop μ-loop
 unfolding filled shortKind
 loop-again c =
     let l = c .before .before .before .loop in
-    let a = c .before .before .before .before .before .args in
+    let a = c .before .before .before .before .before .before .before .args in
     let e = c .before .kind-in .ensures in
     let q = kind-in-at (a .f .now) (a .m) (l .k) (omega arith) (omega arith) in
     (omega arith, rw (c .is-short .ensures, e, add-one, q, l .inv .1))
 
 returns : tie.Need-returns Inv-loop μ-loop
-returns c = let e : c .before .loop .k ≡ c .before .before .before .args .m = omega arith in rw e at (c .before .loop .inv .1)
+returns c = let e : c .before .loop .k ≡ c .before .before .before .before .before .args .m = omega arith in rw e at (c .before .loop .inv .1)
 
 pub flags-in-spec : {M : Type 1} → statement M
 flags-in-spec =

@@ -10,12 +10,18 @@ returns : tie.Need-returns
 unfolding leftOf
 returns c = rw (c .no-left .ensures, c .before .if1 .taken)
 
+abbrev start : tie.Else1 → tie.Start
+start c = c .before .before .before .before
+
+-- past the test the counts are within their bounds
+fine : (c : tie.Else1) → Within (start c .args .m) (start c .args .ids .now) (start c .args .instances .now) (start c .args .n)
+fine c = within _ _ _ _ (c .if1 .left)
+
 flags-in-requires : tie.Need-flags-in-requires
-flags-in-requires c κs = let w : Within (c .before .before .args .m) (c .before .before .args .n) = within _ _ (c .if1 .left) in (w .kinds, w .lines)
+flags-in-requires c κs = let w = fine c in (w .kinds, w .lines, w .reached)
 
 listed-in-requires : tie.Need-listed-in-requires
-listed-in-requires c κs = let a = c .before .before .before .before .args in let w : Within (a .m) (a .n) = within _ _
-    (c .before .before .if1 .left) in w .kinds
+listed-in-requires c κs = fine (c .before .before) .kinds
 
 returns-2 : tie.Need-returns-2
 unfolding leftOf

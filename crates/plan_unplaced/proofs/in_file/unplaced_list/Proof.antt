@@ -5,7 +5,7 @@ use Prim.Native.Nat.{ℕ}
 use borrow.Author.Needs.{needs}
 use Rattle.file_accept.specs.declared.Accepted.{Accepted}
 use Rattle.file_accept.specs.Accept.{Taken, taken, refusal-is}
-use Rattle.plan_unplaced.specs.InFile.{unplaced-refused, unplaced-is}
+use Rattle.plan_unplaced.specs.InFile.{names-long, unplaced-refused, unplaced-is}
 use Rattle.plan_unplaced.proofs.in_file.unplaced_list.Statement.{statement}
 use Rattle.plan_unplaced.proofs.in_file.unplaced_list.Tie as tie
 
@@ -31,4 +31,5 @@ returns-2 c =
     c .left-in .ensures ∙ unplaced-is _ (t .sound) _ _ (t .can-read) (t .kinds-are) (t .lines-are) _ _ (n .line-names .ensures)
 
 pub unplaced-list-spec : {M : Type 1} → statement M
-unplaced-list-spec = tie.close (tie.spec (λ c κs. tt) (λ c κs. tt) returns line-names-requires (λ c κs. tt) returns-2)
+unplaced-list-spec = tie.close (tie.spec (λ c κs. tt) (λ c κs. tt) returns line-names-requires
+    (λ c. sym (names-long (c .before .line-names .ensures) .0)) (λ c. sym (names-long (c .before .before .line-names .ensures) .1)) (λ c κs. tt) returns-2)

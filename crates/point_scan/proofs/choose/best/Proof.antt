@@ -18,21 +18,26 @@ fair c = sym (c .before .over-counts .ensures) ∙ c .if1 .left
 in-bounds : (c : tie.Else1) → let a = c .before .before .before .args in Within (a .t1 .live) (a .t1 .held)
 in-bounds c = within-counts _ _ (fair c)
 
+abbrev else-of : tie.After-walls → tie.Else1
+else-of c = c .before .before .before .before .before .before .before .before
+
 scan-in-requires : tie.Need-scan-in-requires
-scan-in-requires c κs =
-    let h = in-bounds (c .before .before .before .before .before .before .before .before) in
-    (h .room, let r = h .room in let f = h .few in omega arith)
+scan-in-requires c κs = let h = in-bounds (else-of (c .before .before)) in let r = h .room in let f = h .few in (h .room, omega arith, omega arith, omega arith)
 
 returns-2 : tie.Need-returns-2
 unfolding bestIn
 returns-2 c =
-    let r = c .before .before in
-    let w = r .before .before .before .before in
-    let e = w .before .before .before in
+    let k = c .before in
+    let r = k .before .before in
+    let w = r .before .before .before .before .before in
+    let e = else-of (r .before) in
     let a = e .before .before .before .args in
-    rw (fair e) (c .scan-in .ensures .choice-is
+    rw (fair e) (k .scan-in .ensures .choice-is
     ∙ rw (r .room-of .ensures, w .walls-of .ensures)
     (walled-best (a .t1) _ (a .size) (walls-walled _ _ _ (in-bounds e .room))))
 
 pub best-spec : {M : Type 1} → statement M
-best-spec = tie.close (tie.spec (λ c κs. tt) returns (λ c κs. in-bounds (c .before .before) .room) (λ c κs. tt) scan-in-requires returns-2)
+best-spec =
+    tie.close
+    (tie.spec (λ c κs. tt) returns (λ c κs. let h = in-bounds (c .before .before .before) .room in (h, omega arith)) (λ c. search needs) (λ c κs. tt)
+    (λ c. search needs) scan-in-requires returns-2)

@@ -34,7 +34,7 @@ loop-again c = (
 returns-2 : tie.Need-returns-2 Inv-loop μ-loop
 unfolding firstBlock
 returns-2 c =
-    let n = c .before .before .args .n in
+    let n = c .before .before .before .args .n in
     let e : c .before .loop .i ≡ n = omega arith in
     sym (fail-none _ n (rw e at (c .before .loop .inv .1)))
 

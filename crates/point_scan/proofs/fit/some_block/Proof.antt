@@ -12,7 +12,7 @@ returns c = rw (rw (c .before .before .wide .ensures) at (sym (c .before .blocks
 
 cast-result : tie.Need-cast-result
 cast-result c =
-    let a = c .before .before .before .before .args in
+    let a = c .before .before .before .before .before .args in
     let h = first-le (a .walls .now) (a .n) (a .at) (a .far) in
     let e = c .first-block .ensures in
     omega arith

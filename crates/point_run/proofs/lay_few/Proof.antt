@@ -1,0 +1,39 @@
+-- `point_run::lay_few` meets its contract: stores of this size have room for the boxes, and are blank.
+use mathlib.Core.Path.{_≡_, refl}
+use Prim.Native.Nat.{_+_, _*_}
+use native.Mathlib.Omega.{arith}
+use borrow.Author.Needs.{needs}
+use Rattle.domain.specs.Bounds.{fewBoxes}
+use Rattle.point_step.specs.Wide.{wide-blank}
+use Rattle.point_run.proofs.lay_few.Statement.{statement}
+use Rattle.point_run.proofs.lay_few.Tie as tie
+
+lay-in-requires : tie.Need-lay-in-requires
+lay-in-requires c κs =
+    let s = c .before .before .before .before .before .before .before .before .before .before .before .before .before .before .before .before .before .before .before .before .before in
+    let q = s .pre .0 in
+    let few = s .pre .1 in
+    let m = q .few in (
+      q,
+      record { which-in = omega (arith, few); copies-in = omega (arith, few); volumes-in = omega (arith, few); places-in = omega (arith, few) },
+      record {
+        points-few = omega arith;
+        boxes-few = omega arith;
+        walls-few = omega arith;
+        points-room = omega (arith, few, m);
+        boxes-room = omega (arith, few, m);
+        walls-room = omega (arith, few, m);
+        hints-room = omega (arith, few, m);
+      },
+      record { points-blank = wide-blank (3 * (1 + 2 * fewBoxes)) (omega arith); boxes-blank = wide-blank (3 * (1 + 2 * fewBoxes)) (omega arith); walls-blank = wide-blank (3 * (1 + 2 * fewBoxes)) (omega arith) },
+      s .pre .2,
+    )
+
+returns : tie.Need-returns
+returns c = c .before .before .before .before .before .before .before .before .before .before .before .before .before .before .before .before .before .before .before .before .lay-in .ensures
+
+pub lay-few-spec : {M : Type 1} → statement M
+lay-few-spec =
+    tie.close
+    (tie.spec (λ c. search needs) (λ c. search needs) (λ c. search needs) (λ c. search needs) (λ c. search needs) (λ c. search needs) (λ c. search needs) (λ c. search needs) lay-in-requires
+    (λ c. search needs) (λ c. search needs) (λ c. search needs) (λ c. search needs) (λ c. search needs) (λ c. search needs) returns)
