@@ -10,7 +10,7 @@ use mathlib.Core.Bool.{Bool, true, false}
 --   3 a measure or a position (measures: measureFault, containerFault; sheet: lineFault; layer_fitness: fitnessRefusal; layer_lent: askedFault)
 --   4 a kind record (measures: recordFault)
 --   5 a repeated id (sheet: sameId)
---   6 too few lent slots (file_write: writtenOf; plan_sheet: handRefusal; check_packing: checkRefusal; layer_instances: buildRefusal, seedRefusal)
+--   6 too few lent slots (file_write: writtenOf; plan_sheet: handRefusal, fitting; check_packing: checkRefusal; layer_instances: buildRefusal, seedRefusal)
 --   7 a full placer (point_place: refusalOf; layer_fill: placeRefusal)
 --   8 a length that isn't whole, for the fill per thousand (fill_thousand: fillRefusal)
 --   9 a kind index past the order's kinds, in a given instance list (layer_plan: itemsRefusal; point_place: fillRefusal)

@@ -1,5 +1,5 @@
 -- A plan is laid in lent columns that have room for it. RULES: Lent memory
-use mathlib.Core.Path.{_≡_, refl}
+use mathlib.Core.Path.{_≡_}
 use mathlib.Core.Bool.{true, false, cond}
 use Prim.Native.Nat.{ℕ}
 use native.Mathlib.Omega.{arith}

@@ -22,6 +22,7 @@ use Rattle.plan_boxes.specs.Listing.{noInstance}
 use Rattle.sheet.specs.declared.Line.{Line}
 use Rattle.sheet.specs.Sheets.{noKind}
 use Rattle.sheet.specs.Columns.{Columns, columns}
+use Rattle.sheet.specs.Room.{AsLong}
 use Rattle.point_state.specs.declared.ExtremePointSet.{ExtremePointSet}
 use Rattle.point_state.specs.declared.Label.{Label}
 use Rattle.point_state.specs.Triples.{cells, three, three-other, triple-in, tripleIn, putIn, put-in}
@@ -357,16 +358,8 @@ module _ (c : Container) (kinds : List Kind) (items : List Instance) (i live hel
       (p ∙ sym low) q (rw high u)
 
 -- the columns keep their lengths
-pub record SameLong (old now : Columns) : Type 0 where
-  pub ids : length (now .ids) ≡ length (old .ids)
-  pub instances : length (now .instances) ≡ length (old .instances)
-  pub turns : length (now .turns) ≡ length (old .turns)
-  pub xs : length (now .xs) ≡ length (old .xs)
-  pub ys : length (now .ys) ≡ length (old .ys)
-  pub zs : length (now .zs) ≡ length (old .zs)
-
 pub filled-long : {old now : Columns} {labels : List Label} {boxes : List Float} {orientations : List ℕ} {held : ℕ}
-    → Filled old labels boxes orientations held now → SameLong old now
+    → Filled old labels boxes orientations held now → AsLong old now
 filled-long {old} {now} {labels} {boxes} {orientations} {held} f =
     record {
       ids = rw (f .ids-are) (filled-length (old .ids) _ held);
