@@ -1,6 +1,7 @@
 // Writing a load file, form 1: a sheet to bytes.
 ghost use mathlib.Core.Path.{_≡_};
 ghost use lib.ListN.{length};
+ghost use Rattle.sheet.specs.Columns.{columns};
 ghost use Rattle.file_write.specs.Planned.{overCounts};
 ghost use Rattle.file_write.specs.PlanStores.{Told};
 ghost use Rattle.file_write.specs.Writing.{writtenOf, bytesAfter};
@@ -50,23 +51,14 @@ pub fn write_plan(
     ids: &[u32],
     instances: &[u32],
     turns: &[u32],
-    xs: &[f64],
-    ys: &[f64],
-    zs: &[f64],
+    spots: &[[f64; 3]],
     placed: usize,
     left: &[u32; domain::MOST_KINDS],
     unplaced: usize,
     out: &mut [u8],
 ) -> Written
     ensures { λ r. ⌜ Told (now (order .entry)) (record { kinds = kinds; lines = placed; unplaced = unplaced })
-        (record {
-          ids = now (ids .entry);
-          instances = now (instances .entry);
-          turns = now (turns .entry);
-          xs = now (xs .entry);
-          ys = now (ys .entry);
-          zs = now (zs .entry);
-        })
+        (columns (now (ids .entry)) (now (instances .entry)) (now (turns .entry)) (now (spots .entry)))
         (now (left .entry)) (now (out .entry)) (now (out .exit)) r ⌝ }
 {
     let many = Counts {
@@ -74,7 +66,7 @@ pub fn write_plan(
         lines: placed,
         unplaced,
     };
-    let fits = sheet::has_room(ids, instances, turns, xs, ys, zs, placed);
+    let fits = sheet::has_room(ids, instances, turns, spots, placed);
     if over_counts(many) | !fits {
         return Written {
             refused: 2,
@@ -96,7 +88,7 @@ pub fn write_plan(
         };
     }
     plan::put_head(out, order, start);
-    plan::put_columns(out, start, ids, instances, turns, xs, ys, zs, placed);
+    plan::put_columns(out, start, ids, instances, turns, spots, placed);
     plan::put_left(out, start + placed * layout::LINE, left, unplaced);
     write::put_trailer(out, many);
     Written {

@@ -33,21 +33,13 @@ pub(crate) fn put_columns(
     ids: &[u32],
     instances: &[u32],
     turns: &[u32],
-    xs: &[f64],
-    ys: &[f64],
-    zs: &[f64],
+    spots: &[[f64; 3]],
     n: usize,
 )
-    requires { ⌜ (n ≤ mostLines) × Roomy (columns (now ids) (now instances) (now turns) (now xs) (now ys) (now zs)) n
+    requires { ⌜ (n ≤ mostLines) × Roomy (columns (now ids) (now instances) (now turns) (now spots)) n
         × (start + n * lineBytes ≤ length (now out)) ⌝ }
-    ensures { λ _. ⌜ Put (now (out .entry)) start (columnsOut (record {
-      ids = now (ids .entry);
-      instances = now (instances .entry);
-      turns = now (turns .entry);
-      xs = now (xs .entry);
-      ys = now (ys .entry);
-      zs = now (zs .entry);
-    }) n) (now (out .exit)) ⌝ }
+    ensures { λ _. ⌜ Put (now (out .entry)) start
+        (columnsOut (columns (now (ids .entry)) (now (instances .entry)) (now (turns .entry)) (now (spots .entry))) n) (now (out .exit)) ⌝ }
 {
     let mut i = 0;
     while i < n {
@@ -56,7 +48,7 @@ pub(crate) fn put_columns(
             instance: instances[i],
             orientation: turns[i],
             bin: 0,
-            at: [xs[i], ys[i], zs[i]],
+            at: spots[i],
         };
         write::put_line(out, start + i * layout::LINE, line);
         i += 1;

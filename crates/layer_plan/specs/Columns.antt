@@ -1,4 +1,4 @@
--- RULES: Lent memory. A fill's lines in six lent columns, a cell for each line: ids, instances, orientations and the three axes of the position.
+-- RULES: Lent memory. A fill's lines in four lent columns, a cell for each line: ids, instances, orientations and near corners.
 use mathlib.Core.Path.{_≡_, refl, sym, _∙_, ap}
 use mathlib.Core.Bool.{Bool, true, false, cond}
 use mathlib.Core.List.{List}
@@ -7,7 +7,6 @@ use native.Mathlib.Numerals.{add-one}
 use native.Mathlib.Omega.{arith}
 use lib.ListN.{length, getD, set, length-set}
 use lib.Seq.{getD-set-same, getD-set-other}
-use Rattle.floats.specs.Ops.{x, y, z}
 use Rattle.lists.specs.Table.{filled, filled-length, filled-same}
 use Rattle.lists.specs.Bools.{cond-keeps}
 use Rattle.domain.specs.Bounds.{mostBoxes}
@@ -20,7 +19,7 @@ use Rattle.layer_state.specs.declared.stand.Step.{Step}
 use Rattle.layer_state.specs.Stand.{noStep}
 use Rattle.layer_fill.specs.declared.LayerFill.{LayerFill}
 use Rattle.layer_fill.specs.Fill.{noLines, empty, lineOf, pushed, took}
-use Rattle.sheet.specs.Columns.{Columns, idOf, instanceOf, orientationOf, xOf, yOf, zOf}
+use Rattle.sheet.specs.Columns.{Columns, idOf, instanceOf, orientationOf, spotOf}
 use Rattle.plan_sheet.specs.Room.{AsLong}
 use Rattle.layer_plan.specs.Offers.{Offer}
 use Rattle.layer_plan.specs.Run.{stepBy, offered, runFrom, countAfter}
@@ -37,9 +36,7 @@ shownIn old f =
       ids = column idOf (old .ids) f;
       instances = column instanceOf (old .instances) f;
       turns = column orientationOf (old .turns) f;
-      xs = column xOf (old .xs) f;
-      ys = column yOf (old .ys) f;
-      zs = column zOf (old .zs) f;
+      spots = column spotOf (old .spots) f;
     }
 
 -- a placed box's line at n; no box, no change
@@ -50,9 +47,7 @@ putIn s id instance n c =
       ids = set (c .ids) n id;
       instances = set (c .instances) n instance;
       turns = set (c .turns) n (s .orientation);
-      xs = set (c .xs) n (x (s .at));
-      ys = set (c .ys) n (y (s .at));
-      zs = set (c .zs) n (z (s .at));
+      spots = set (c .spots) n (s .at);
     })
     c
 
@@ -70,9 +65,7 @@ shown-alike old new f e =
       ids = column-length idOf (old .ids) f;
       instances = column-length instanceOf (old .instances) f;
       turns = column-length orientationOf (old .turns) f;
-      xs = column-length xOf (old .xs) f;
-      ys = column-length yOf (old .ys) f;
-      zs = column-length zOf (old .zs) f;
+      spots = column-length spotOf (old .spots) f;
     })
 
 -- a new fill has no line
@@ -101,9 +94,7 @@ module _ (old : Columns) (f : LayerFill) (s : Step) (id instance : ℕ) (long : 
             ids = set (column idOf (old .ids) f) (f .count) id;
             instances = set (column instanceOf (old .instances) f) (f .count) instance;
             turns = set (column orientationOf (old .turns) f) (f .count) (s .orientation);
-            xs = set (column xOf (old .xs) f) (f .count) (x (s .at));
-            ys = set (column yOf (old .ys) f) (f .count) (y (s .at));
-            zs = set (column zOf (old .zs) f) (f .count) (z (s .at));
+            spots = set (column spotOf (old .spots) f) (f .count) (s .at);
           })
           (shownIn old f)
           ≡ shownIn old (cond b (pushed f s id instance) f)
@@ -112,9 +103,7 @@ module _ (old : Columns) (f : LayerFill) (s : Step) (id instance : ℕ) (long : 
             column-more idOf (old .ids) f (lineOf s id instance) long room,
             column-more instanceOf (old .instances) f (lineOf s id instance) long room,
             column-more orientationOf (old .turns) f (lineOf s id instance) long room,
-            column-more xOf (old .xs) f (lineOf s id instance) long room,
-            column-more yOf (old .ys) f (lineOf s id instance) long room,
-            column-more zOf (old .zs) f (lineOf s id instance) long room,
+            column-more spotOf (old .spots) f (lineOf s id instance) long room,
           )
       go false = refl
 

@@ -75,9 +75,7 @@ lays-made p f n r old new m h =
             laid-is _ (old .ids) p f n m,
             laid-is _ (old .instances) p f n m,
             laid-is _ (old .turns) p f n m,
-            laid-is _ (old .xs) p f n m,
-            laid-is _ (old .ys) p f n m,
-            laid-is _ (old .zs) p f n m,
+            laid-is _ (old .spots) p f n m,
           );
     }
 

@@ -64,14 +64,12 @@ fn lay_each(
     ids: &mut [u32],
     instances: &mut [u32],
     turns: &mut [u32],
-    xs: &mut [f64],
-    ys: &mut [f64],
-    zs: &mut [f64],
+    spots: &mut [[f64; 3]],
 ) -> Told
-    requires { ⌜ Fit (now f) (now records) (now items) n × Roomy (columns (now ids) (now instances) (now turns) (now xs) (now ys) (now zs)) n ⌝ }
+    requires { ⌜ Fit (now f) (now records) (now items) n × Roomy (columns (now ids) (now instances) (now turns) (now spots)) n ⌝ }
     ensures { λ r. ⌜ Shows (fillOver (sheetOf (now (f .entry))) (now (records .entry)) (now (items .entry)) n) n r
-        (columns (now (ids .entry)) (now (instances .entry)) (now (turns .entry)) (now (xs .entry)) (now (ys .entry)) (now (zs .entry)))
-        (columns (now (ids .exit)) (now (instances .exit)) (now (turns .exit)) (now (xs .exit)) (now (ys .exit)) (now (zs .exit))) ⌝ }
+        (columns (now (ids .entry)) (now (instances .entry)) (now (turns .entry)) (now (spots .entry)))
+        (columns (now (ids .exit)) (now (instances .exit)) (now (turns .exit)) (now (spots .exit))) ⌝ }
 {
     let container = records::container_in(f);
     let mut stand = Stand::new(container);
@@ -80,7 +78,7 @@ fn lay_each(
     while j < n {
         let t = try_item(f, stand, records, items, n, j);
         let s = t.step;
-        held = put_line(s, t.id, t.instance, held, ids, instances, turns, xs, ys, zs);
+        held = put_line(s, t.id, t.instance, held, ids, instances, turns, spots);
         let next = s.next;
         stand = next;
         j += 1;
@@ -103,15 +101,13 @@ pub fn lay_items(
     ids: &mut [u32],
     instances: &mut [u32],
     turns: &mut [u32],
-    xs: &mut [f64],
-    ys: &mut [f64],
-    zs: &mut [f64],
+    spots: &mut [[f64; 3]],
 ) -> Told
     ensures { λ r. ⌜ Lays
-        (fitting (columns (now (ids .entry)) (now (instances .entry)) (now (turns .entry)) (now (xs .entry)) (now (ys .entry)) (now (zs .entry)))
+        (fitting (columns (now (ids .entry)) (now (instances .entry)) (now (turns .entry)) (now (spots .entry)))
         (itemsIn (now (order .entry)) (now (records .entry)) (now (items .entry)) consider)) r
-        (columns (now (ids .entry)) (now (instances .entry)) (now (turns .entry)) (now (xs .entry)) (now (ys .entry)) (now (zs .entry)))
-        (columns (now (ids .exit)) (now (instances .exit)) (now (turns .exit)) (now (xs .exit)) (now (ys .exit)) (now (zs .exit))) ⌝ }
+        (columns (now (ids .entry)) (now (instances .entry)) (now (turns .entry)) (now (spots .entry)))
+        (columns (now (ids .exit)) (now (instances .exit)) (now (turns .exit)) (now (spots .exit))) ⌝ }
 {
     let many = items.len() / ITEM;
     if (many > domain::MOST_ITEMS) | (records.len() / RECORD > domain::MOST_INSTANCES) {
@@ -125,8 +121,8 @@ pub fn lay_items(
         return refused_told(9);
     }
     let n = plan_sheet::smaller(consider, many as u64) as usize;
-    if !sheet::has_room(ids, instances, turns, xs, ys, zs, n) {
+    if !sheet::has_room(ids, instances, turns, spots, n) {
         return refused_told(6);
     }
-    lay_each(order, records, items, n, ids, instances, turns, xs, ys, zs)
+    lay_each(order, records, items, n, ids, instances, turns, spots)
 }

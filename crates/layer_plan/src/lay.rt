@@ -14,14 +14,12 @@ pub(crate) fn put_line(
     ids: &mut [u32],
     instances: &mut [u32],
     turns: &mut [u32],
-    xs: &mut [f64],
-    ys: &mut [f64],
-    zs: &mut [f64],
+    spots: &mut [[f64; 3]],
 ) -> usize
-    requires { ⌜ Roomy (columns (now ids) (now instances) (now turns) (now xs) (now ys) (now zs)) (n + 1) ⌝ }
+    requires { ⌜ Roomy (columns (now ids) (now instances) (now turns) (now spots)) (n + 1) ⌝ }
     ensures { λ r. ⌜ Puts s id instance n r
-        (columns (now (ids .entry)) (now (instances .entry)) (now (turns .entry)) (now (xs .entry)) (now (ys .entry)) (now (zs .entry)))
-        (columns (now (ids .exit)) (now (instances .exit)) (now (turns .exit)) (now (xs .exit)) (now (ys .exit)) (now (zs .exit))) ⌝ }
+        (columns (now (ids .entry)) (now (instances .entry)) (now (turns .entry)) (now (spots .entry)))
+        (columns (now (ids .exit)) (now (instances .exit)) (now (turns .exit)) (now (spots .exit))) ⌝ }
 {
     if !s.fits {
         return n;
@@ -30,8 +28,6 @@ pub(crate) fn put_line(
     ids[n] = id;
     instances[n] = instance;
     turns[n] = s.orientation;
-    xs[n] = at[0];
-    ys[n] = at[1];
-    zs[n] = at[2];
+    spots[n] = at;
     n + 1
 }

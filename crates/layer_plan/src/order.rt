@@ -19,14 +19,12 @@ fn lay_boxes(
     ids: &mut [u32],
     instances: &mut [u32],
     turns: &mut [u32],
-    xs: &mut [f64],
-    ys: &mut [f64],
-    zs: &mut [f64],
+    spots: &mut [[f64; 3]],
 ) -> Told
-    requires { ⌜ InFile (now f) n × Roomy (columns (now ids) (now instances) (now turns) (now xs) (now ys) (now zs)) n ⌝ }
+    requires { ⌜ InFile (now f) n × Roomy (columns (now ids) (now instances) (now turns) (now spots)) n ⌝ }
     ensures { λ r. ⌜ Shows (fillBy (sheetOf (now (f .entry))) n) n r
-        (columns (now (ids .entry)) (now (instances .entry)) (now (turns .entry)) (now (xs .entry)) (now (ys .entry)) (now (zs .entry)))
-        (columns (now (ids .exit)) (now (instances .exit)) (now (turns .exit)) (now (xs .exit)) (now (ys .exit)) (now (zs .exit))) ⌝ }
+        (columns (now (ids .entry)) (now (instances .entry)) (now (turns .entry)) (now (spots .entry)))
+        (columns (now (ids .exit)) (now (instances .exit)) (now (turns .exit)) (now (spots .exit))) ⌝ }
 {
     let container = records::container_in(f);
     let mut stand = Stand::new(container);
@@ -39,7 +37,7 @@ fn lay_boxes(
     while t < n {
         let k = records::kind_in(f, u.kind);
         let s = stand.place_best(k);
-        held = put_line(s, k.id, u.instance, held, ids, instances, turns, xs, ys, zs);
+        held = put_line(s, k.id, u.instance, held, ids, instances, turns, spots);
         let next = s.next;
         stand = next;
         u = plan_boxes::next_box(u, k.quantity);
@@ -61,23 +59,21 @@ pub fn lay_layers(
     ids: &mut [u32],
     instances: &mut [u32],
     turns: &mut [u32],
-    xs: &mut [f64],
-    ys: &mut [f64],
-    zs: &mut [f64],
+    spots: &mut [[f64; 3]],
 ) -> Told
     ensures { λ r. ⌜ Lays
-        (fitting (columns (now (ids .entry)) (now (instances .entry)) (now (turns .entry)) (now (xs .entry)) (now (ys .entry)) (now (zs .entry)))
+        (fitting (columns (now (ids .entry)) (now (instances .entry)) (now (turns .entry)) (now (spots .entry)))
         (planIn layerFillOf (now (order .entry)) consider)) r
-        (columns (now (ids .entry)) (now (instances .entry)) (now (turns .entry)) (now (xs .entry)) (now (ys .entry)) (now (zs .entry)))
-        (columns (now (ids .exit)) (now (instances .exit)) (now (turns .exit)) (now (xs .exit)) (now (ys .exit)) (now (zs .exit))) ⌝ }
+        (columns (now (ids .entry)) (now (instances .entry)) (now (turns .entry)) (now (spots .entry)))
+        (columns (now (ids .exit)) (now (instances .exit)) (now (turns .exit)) (now (spots .exit))) ⌝ }
 {
     let a = file_accept::accept(order);
     if a.refused != 0 {
         return plan_sheet::refused_told(a.refused);
     }
     let n = plan_sheet::smaller(consider, plan_boxes::boxes_of(order, a.kinds)) as usize;
-    if !sheet::has_room(ids, instances, turns, xs, ys, zs, n) {
+    if !sheet::has_room(ids, instances, turns, spots, n) {
         return plan_sheet::refused_told(6);
     }
-    lay_boxes(order, n, ids, instances, turns, xs, ys, zs)
+    lay_boxes(order, n, ids, instances, turns, spots)
 }

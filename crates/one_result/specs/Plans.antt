@@ -13,7 +13,7 @@ module _ {M : Type 1} (𝓤 : URA M) (w : World 𝓤) where
   smaller-one κs args = plain 𝓤 _ _ (λ _. refl) (λ _ _ _. refl)
 
   pub hand-columns-one : (κs : _) (args : _)
-      → Settles 𝓤 (hand-columns.clauses 𝓤 (w .heap) (w .atoms) (w .mem) (w .run) κs args) (λ e. now (e .1 .1 .1 .1 .1 .1 .1 .1 .0))
+      → Settles 𝓤 (hand-columns.clauses 𝓤 (w .heap) (w .atoms) (w .mem) (w .run) κs args) (λ e. now (e .1 .1 .1 .1 .1 .1 .0))
   hand-columns-one κs args =
       told 𝓤 _ _ (λ r x. Handed _ _ _ _ r x) (λ _. refl) (λ _ _ _. refl)
       (λ r s x y p q. (p .answer-is ∙ sym (q .answer-is), p .words-are ∙ sym (q .words-are)))

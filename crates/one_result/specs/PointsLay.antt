@@ -11,8 +11,7 @@ module _ {M : Type 1} (𝓤 : URA M) (w : World 𝓤) where
   pub lay-points-one : (κs : _) (args : _)
       → Settles 𝓤 (lay-points.clauses 𝓤 (w .heap) (w .atoms) (w .mem) (w .run) κs args)
       (λ e.
-      columns (now (e .1 .1 .0)) (now (e .1 .1 .1 .0)) (now (e .1 .1 .1 .1 .0)) (now (e .1 .1 .1 .1 .1 .0)) (now (e .1 .1 .1 .1 .1 .1 .0))
-      (now (e .1 .1 .1 .1 .1 .1 .1 .0)))
+      columns (now (e .1 .1 .0)) (now (e .1 .1 .1 .0)) (now (e .1 .1 .1 .1 .0)) (now (e .1 .1 .1 .1 .1 .0)))
   lay-points-one κs args =
       told 𝓤 _ _ (λ r x. Lays _ r _ x) (λ _. refl) (λ _ _ _. refl)
       (λ r s x y p q. (p .told-is ∙ sym (q .told-is), p .columns-are ∙ sym (q .columns-are)))

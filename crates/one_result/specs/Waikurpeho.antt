@@ -5,7 +5,7 @@ use denote.Ref.{now}
 use Rattle.one_result.specs.Law.{World, Settles, lent, lent-two, pairOf, told}
 use Rattle.point_run.specs.Runs.{epPackingOf}
 use Rattle.layer_plan.specs.Fills.{layerFillOf}
-use Rattle.waikurpeho.specs.Plan.{Answers}
+use Rattle.plan_file.specs.Plan.{Answers}
 use Rattle.waikurpeho.proofs.wk_check as wk-check
 use Rattle.waikurpeho.proofs.wk_plan_points as wk-plan-points
 use Rattle.waikurpeho.proofs.wk_plan_layers as wk-plan-layers

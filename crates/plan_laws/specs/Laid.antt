@@ -1,13 +1,12 @@
 -- A plan that was laid in columns: its lines are read off them again, and of an accepted order the unplaced list that is made from them is the plan's own.
 use mathlib.Core.Path.{_≡_, refl, sym, ap, _∙_}
-use mathlib.Core.List.{List}
+use mathlib.Core.List.{List, []}
 use Prim.Native.Nat.{ℕ, _<_, _≤_}
-use lib.Ieee.{nan}
 use Rattle.domain.specs.Bounds.{mostKinds}
 use Rattle.sheet.specs.declared.Counts.{Counts}
 use Rattle.sheet.specs.declared.Line.{Line}
 use Rattle.sheet.specs.declared.Sheet.{Sheet}
-use Rattle.sheet.specs.Columns.{Columns, columnLine, lineFor, idOf, instanceOf, orientationOf, xOf, yOf, zOf}
+use Rattle.sheet.specs.Columns.{Columns, columnLine, lineFor, idOf, instanceOf, orientationOf, spotOf}
 use Rattle.file_read.specs.declared.records.Sections.{Sections}
 use Rattle.file_read.specs.Form.{countsOf}
 use Rattle.file_read.specs.Reading.{sheetOf, refusalOf}
@@ -32,9 +31,9 @@ pub left-made : (f : List ℕ) (t : Told) (c : Columns) (s : Sections) (l : Left
 unfolding laidLeft
 left-made f t c s l e h = rw e at h
 
--- the line that six columns have of a line: all but its case
+-- the line that the columns have of a line: all but its case
 abbrev pub shownOf : Line → Line
-shownOf l = lineFor (idOf l) (instanceOf l) (orientationOf l) (xOf l) (yOf l) (zOf l)
+shownOf l = lineFor (idOf l) (instanceOf l) (orientationOf l) (spotOf l)
 
 pub line-laid : (p : Plan) (old : Columns) → Roomy old (p .placed) → (i : ℕ) → i < p .placed
     → columnLine (laidIn old p) i ≡ shownOf (placedAt p i)
@@ -43,9 +42,7 @@ line-laid p old room i l =
       laid-at idOf (old .ids) p i 0 (room .ids) l,
       laid-at instanceOf (old .instances) p i 0 (room .instances) l,
       laid-at orientationOf (old .turns) p i 0 (room .turns) l,
-      laid-at xOf (old .xs) p i nan (room .xs) l,
-      laid-at yOf (old .ys) p i nan (room .ys) l,
-      laid-at zOf (old .zs) p i nan (room .zs) l,
+      laid-at spotOf (old .spots) p i [] (room .spots) l,
     )
 
 pub sections-are : (f : List ℕ) → refusalOf f ≡ 0 → sectionsOf f .many ≡ countsOf f

@@ -1,4 +1,4 @@
-// The runs of the placers over the order in a load file, handed out into lent words, six to a line. A run lays its plan in six columns of its own.
+// The runs of the placers over the order in a load file, handed out into lent words, six to a line. A run lays its plan in columns of its own.
 ghost use Rattle.sheet.specs.Columns.{columns};
 ghost use Rattle.plan_sheet.specs.Laid.{planIn};
 ghost use Rattle.point_run.specs.Runs.{epPackingOf};
@@ -16,19 +16,17 @@ fn hand_laid(
     ids: &[u32],
     instances: &[u32],
     turns: &[u32],
-    xs: &[f64],
-    ys: &[f64],
-    zs: &[f64],
+    spots: &[[f64; 3]],
     slots: &mut [u64],
 ) -> Packed
     ensures { λ r. ⌜ Packs (laidPlan (now (order .entry)) told
-        (columns (now (ids .entry)) (now (instances .entry)) (now (turns .entry)) (now (xs .entry)) (now (ys .entry)) (now (zs .entry))))
+        (columns (now (ids .entry)) (now (instances .entry)) (now (turns .entry)) (now (spots .entry))))
         (now (slots .entry)) r (now (slots .exit)) ⌝ }
 {
     let sections = records::sections_of(order);
     let many = sections.many;
     let left = plan_unplaced::left_in(order, many.kinds, ids, instances, told.placed);
-    plan_sheet::hand_columns(told, left, ids, instances, turns, xs, ys, zs, slots)
+    plan_sheet::hand_columns(told, left, ids, instances, turns, spots, slots)
 }
 
 // The run of the extreme-point placer over the order in a load file: its boxes by falling volume, each at the least point that takes it, as far as
@@ -39,20 +37,16 @@ pub fn run_ep_packing(order: &[u8], consider: u64, slots: &mut [u64]) -> Packed
     let mut ids = [0u32; domain::MOST_LINES];
     let mut instances = [0u32; domain::MOST_LINES];
     let mut turns = [0u32; domain::MOST_LINES];
-    let mut xs = [0.0; domain::MOST_LINES];
-    let mut ys = [0.0; domain::MOST_LINES];
-    let mut zs = [0.0; domain::MOST_LINES];
+    let mut spots = [[0.0; 3]; domain::MOST_LINES];
     let told = point_run::lay_points(
         order,
         consider,
         &mut ids,
         &mut instances,
         &mut turns,
-        &mut xs,
-        &mut ys,
-        &mut zs,
+        &mut spots,
     );
-    hand_laid(order, told, &ids, &instances, &turns, &xs, &ys, &zs, slots)
+    hand_laid(order, told, &ids, &instances, &turns, &spots, slots)
 }
 
 // The fill by layers of the order in a load file: its boxes in turn, each in its best orientation, as far as `consider` goes.
@@ -62,20 +56,16 @@ pub fn layer_fill_in_order(order: &[u8], consider: u64, slots: &mut [u64]) -> Pa
     let mut ids = [0u32; domain::MOST_LINES];
     let mut instances = [0u32; domain::MOST_LINES];
     let mut turns = [0u32; domain::MOST_LINES];
-    let mut xs = [0.0; domain::MOST_LINES];
-    let mut ys = [0.0; domain::MOST_LINES];
-    let mut zs = [0.0; domain::MOST_LINES];
+    let mut spots = [[0.0; 3]; domain::MOST_LINES];
     let told = layer_plan::lay_layers(
         order,
         consider,
         &mut ids,
         &mut instances,
         &mut turns,
-        &mut xs,
-        &mut ys,
-        &mut zs,
+        &mut spots,
     );
-    hand_laid(order, told, &ids, &instances, &turns, &xs, &ys, &zs, slots)
+    hand_laid(order, told, &ids, &instances, &turns, &spots, slots)
 }
 
 // Items in the given order and orientations, each an instance of a given list, as far as `consider` goes.
@@ -91,9 +81,7 @@ pub fn layer_place_items(
     let mut ids = [0u32; domain::MOST_LINES];
     let mut instances = [0u32; domain::MOST_LINES];
     let mut turns = [0u32; domain::MOST_LINES];
-    let mut xs = [0.0; domain::MOST_LINES];
-    let mut ys = [0.0; domain::MOST_LINES];
-    let mut zs = [0.0; domain::MOST_LINES];
+    let mut spots = [[0.0; 3]; domain::MOST_LINES];
     let told = layer_plan::lay_items(
         order,
         records,
@@ -102,9 +90,7 @@ pub fn layer_place_items(
         &mut ids,
         &mut instances,
         &mut turns,
-        &mut xs,
-        &mut ys,
-        &mut zs,
+        &mut spots,
     );
-    hand_laid(order, told, &ids, &instances, &turns, &xs, &ys, &zs, slots)
+    hand_laid(order, told, &ids, &instances, &turns, &spots, slots)
 }

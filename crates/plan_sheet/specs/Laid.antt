@@ -9,7 +9,7 @@ use Rattle.lists.specs.Table.{filled}
 use Rattle.sheet.specs.declared.Line.{Line}
 use Rattle.sheet.specs.declared.Sheet.{Sheet}
 use Rattle.sheet.specs.Sheets.{noLine}
-use Rattle.sheet.specs.Columns.{Columns, idOf, instanceOf, orientationOf, xOf, yOf, zOf}
+use Rattle.sheet.specs.Columns.{Columns, idOf, instanceOf, orientationOf, spotOf}
 use Rattle.file_read.specs.Reading.{sheetOf, refusalOf}
 use Rattle.plan_sheet.specs.declared.Told.{Told}
 use Rattle.plan_sheet.specs.Plans.{Plan, refusedPlan}
@@ -30,16 +30,14 @@ placedAt p i = getD (p .lines) i noLine
 unfoldable pub laid : {A : Type 0} → (Line → A) → List A → Plan → List A
 laid part old p = filled old (λ i. part (placedAt p i)) (p .placed)
 
--- all six
+-- all four
 abbrev pub laidIn : Columns → Plan → Columns
 laidIn old p =
     record {
       ids = laid idOf (old .ids) p;
       instances = laid instanceOf (old .instances) p;
       turns = laid orientationOf (old .turns) p;
-      xs = laid xOf (old .xs) p;
-      ys = laid yOf (old .ys) p;
-      zs = laid zOf (old .zs) p;
+      spots = laid spotOf (old .spots) p;
     }
 
 -- what a call that lays a plan ends with: what it tells, and the columns

@@ -9,7 +9,7 @@ use Rattle.lists.specs.Table.{filled-at, filled-length}
 use Rattle.domain.specs.Bounds.{mostLines}
 use Rattle.measures.specs.declared.Kind.{Kind}
 use Rattle.sheet.specs.declared.Line.{Line}
-use Rattle.sheet.specs.Columns.{Columns, idOf, instanceOf, orientationOf, xOf, yOf, zOf}
+use Rattle.sheet.specs.Columns.{Columns, idOf, instanceOf, orientationOf, spotOf}
 use Rattle.plan_unplaced.specs.Short.{namesOf, named}
 use Rattle.plan_unplaced.specs.Left.{leftOf, Reached, names-reached}
 use Rattle.plan_unplaced.specs.Same.{left-same}
@@ -36,9 +36,7 @@ laid-roomy old p n r =
       ids = rw (laid-length idOf (old .ids) p) (r .ids);
       instances = rw (laid-length instanceOf (old .instances) p) (r .instances);
       turns = rw (laid-length orientationOf (old .turns) p) (r .turns);
-      xs = rw (laid-length xOf (old .xs) p) (r .xs);
-      ys = rw (laid-length yOf (old .ys) p) (r .ys);
-      zs = rw (laid-length zOf (old .zs) p) (r .zs);
+      spots = rw (laid-length spotOf (old .spots) p) (r .spots);
     }
 
 pub left-laid : (kinds : List Kind) (m : ℕ) (p : Plan) (ids instances : List ℕ) → p .placed ≤ mostLines → Reached ids instances (p .placed)
@@ -66,6 +64,5 @@ module _ (old : Columns) (p : Plan) where
 
 -- column by column
 pub laid-all : (p : Plan) (old new : Columns) → new .ids ≡ laid idOf (old .ids) p → new .instances ≡ laid instanceOf (old .instances) p
-    → new .turns ≡ laid orientationOf (old .turns) p → new .xs ≡ laid xOf (old .xs) p → new .ys ≡ laid yOf (old .ys) p → new .zs ≡ laid zOf (old .zs) p
-    → new ≡ laidIn old p
-laid-all p old new a b c d e f = rw (← a, ← b, ← c, ← d, ← e, ← f)
+    → new .turns ≡ laid orientationOf (old .turns) p → new .spots ≡ laid spotOf (old .spots) p → new ≡ laidIn old p
+laid-all p old new a b c d = rw (← a, ← b, ← c, ← d)

@@ -27,4 +27,4 @@ unfolding fitting refusedPlan
 fits-refused c r = rw (has-room c 0 none)
   where
     none : Roomy c 0
-    none = record { ids = omega arith; instances = omega arith; turns = omega arith; xs = omega arith; ys = omega arith; zs = omega arith }
+    none = record { ids = omega arith; instances = omega arith; turns = omega arith; spots = omega arith }

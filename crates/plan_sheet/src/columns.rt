@@ -29,15 +29,15 @@ pub fn refused_told(refused: u32) -> Told
 }
 
 // A line of a planned sheet.
-fn line_for(id: u32, instance: u32, orientation: u32, x: f64, y: f64, z: f64) -> Line
-    ensures { λ r. ⌜ r ≡ lineFor id instance orientation x y z ⌝ }
+fn line_for(id: u32, instance: u32, orientation: u32, at: [f64; 3]) -> Line
+    ensures { λ r. ⌜ r ≡ lineFor id instance orientation at ⌝ }
 {
     Line {
         id,
         instance,
         orientation,
         bin: 0,
-        at: [x, y, z],
+        at,
     }
 }
 
@@ -47,24 +47,16 @@ fn put_columns(
     ids: &[u32],
     instances: &[u32],
     turns: &[u32],
-    xs: &[f64],
-    ys: &[f64],
-    zs: &[f64],
+    spots: &[[f64; 3]],
     n: usize,
 )
-    requires { ⌜ Roomy (columns (now ids) (now instances) (now turns) (now xs) (now ys) (now zs)) n × (n * 6 ≤ length (now out)) ⌝ }
-    ensures { λ _. ⌜ now (out .exit) ≡ wrote (rowBy (record {
-      ids = now (ids .entry);
-      instances = now (instances .entry);
-      turns = now (turns .entry);
-      xs = now (xs .entry);
-      ys = now (ys .entry);
-      zs = now (zs .entry);
-    })) 6 n (now (out .entry)) ⌝ }
+    requires { ⌜ Roomy (columns (now ids) (now instances) (now turns) (now spots)) n × (n * 6 ≤ length (now out)) ⌝ }
+    ensures { λ _. ⌜ now (out .exit) ≡ wrote
+        (rowBy (columns (now (ids .entry)) (now (instances .entry)) (now (turns .entry)) (now (spots .entry)))) 6 n (now (out .entry)) ⌝ }
 {
     let mut i = 0;
     while i < n {
-        let l = line_for(ids[i], instances[i], turns[i], xs[i], ys[i], zs[i]);
+        let l = line_for(ids[i], instances[i], turns[i], spots[i]);
         put_line(&mut out[..], i * WORDS, l);
         i += 1;
     }
@@ -78,27 +70,19 @@ pub fn hand_columns(
     ids: &[u32],
     instances: &[u32],
     turns: &[u32],
-    xs: &[f64],
-    ys: &[f64],
-    zs: &[f64],
+    spots: &[[f64; 3]],
     slots: &mut [u64],
 ) -> Packed
-    ensures { λ r. ⌜ Handed told left (record {
-      ids = now (ids .entry);
-      instances = now (instances .entry);
-      turns = now (turns .entry);
-      xs = now (xs .entry);
-      ys = now (ys .entry);
-      zs = now (zs .entry);
-    }) (now (slots .entry)) r (now (slots .exit)) ⌝ }
+    ensures { λ r. ⌜ Handed told left
+        (columns (now (ids .entry)) (now (instances .entry)) (now (turns .entry)) (now (spots .entry))) (now (slots .entry)) r (now (slots .exit)) ⌝ }
 {
-    let fits = sheet::has_room(ids, instances, turns, xs, ys, zs, told.placed);
+    let fits = sheet::has_room(ids, instances, turns, spots, told.placed);
     let own = domain::or_else(told.refused, domain::given(!fits, 2));
     let refused = hand_refusal(own, told.placed, left.count, slots.len());
     if refused != 0 {
         return refused_pack(refused, told.placed);
     }
-    put_columns(slots, ids, instances, turns, xs, ys, zs, told.placed);
+    put_columns(slots, ids, instances, turns, spots, told.placed);
     let names = left.ids;
     Packed {
         refused: 0,

@@ -9,7 +9,7 @@ use native.Mathlib.Omega.{arith}
 use lib.ListN.{length, getD, set, replicate, length-set, length-replicate}
 use lib.Seq.{getD-set-same, getD-set-other}
 use lib.Ieee.{Float}
-use Rattle.floats.specs.Ops.{x, y, z, none, _⊕_, _⊘_}
+use Rattle.floats.specs.Ops.{none, _⊕_}
 use Rattle.lists.specs.Table.{filled, filled-length, filled-same}
 use Rattle.domain.specs.Bounds.{mostKinds, mostBoxes, mostLines}
 use Rattle.measures.specs.declared.Container.{Container}
@@ -43,9 +43,7 @@ pub record Filled (old : Columns) (labels : List Label) (boxes : List Float) (or
   pub ids-are : now .ids ≡ filled (old .ids) (λ j. lineBy labels boxes orientations j .id) held
   pub instances-are : now .instances ≡ filled (old .instances) (λ j. lineBy labels boxes orientations j .instance) held
   pub turns-are : now .turns ≡ filled (old .turns) (λ j. lineBy labels boxes orientations j .orientation) held
-  pub xs-are : now .xs ≡ filled (old .xs) (λ j. x (lineBy labels boxes orientations j .at)) held
-  pub ys-are : now .ys ≡ filled (old .ys) (λ j. y (lineBy labels boxes orientations j .at)) held
-  pub zs-are : now .zs ≡ filled (old .zs) (λ j. z (lineBy labels boxes orientations j .at)) held
+  pub spots-are : now .spots ≡ filled (old .spots) (λ j. lineBy labels boxes orientations j .at) held
 
 -- what the loop over the boxes comes to: the columns, how many boxes stand, and their volume
 abbrev pub stowed : Container → List Kind → List Instance → ℕ → Stowed
@@ -175,7 +173,7 @@ holds-none c kinds items points old e =
       steady = h .steady;
       long = length-replicate {A = ℕ} mostBoxes 0;
       volume-is = refl;
-      filled-is = record { ids-are = refl; instances-are = refl; turns-are = refl; xs-are = refl; ys-are = refl; zs-are = refl };
+      filled-is = record { ids-are = refl; instances-are = refl; turns-are = refl; spots-are = refl };
       stuck = λ l copy. absurd (past l);
     })
 
@@ -250,7 +248,7 @@ module _ (c : Container) (kinds : List Kind) (items : List Instance) (i live hel
     abbrev pub cellsWith : Columns
     cellsWith =
         columns (set (now .ids) held (kind .id)) (set (now .instances) held (item .instance)) (set (now .turns) held (r .orientation))
-        (set (now .xs) held (x place)) (set (now .ys) held (y place)) (set (now .zs) held (z place))
+        (set (now .spots) held place)
 
     box-is : r .found ≡ true
         → t .boxes ≡ putBox boxes held (three points (pickAt s walls hints mass kind (h .steady) room hinted .index))
@@ -278,12 +276,8 @@ module _ (c : Container) (kinds : List Kind) (items : List Instance) (i live hel
               (sym (ap (λ (v : Line). v .instance) new)));
           turns-are = rw (f .turns-are) (column-more (old .turns) _ _ held _ (λ j l. ap (λ (v : Line). v .orientation) (before j l))
               (sym (ap (λ (v : Line). v .orientation) new)));
-          xs-are = rw (f .xs-are) (column-more (old .xs) _ _ held _ (λ j l. ap (λ (v : Line). x (v .at)) (before j l))
-              (sym (ap (λ (v : Line). x (v .at)) new)));
-          ys-are = rw (f .ys-are) (column-more (old .ys) _ _ held _ (λ j l. ap (λ (v : Line). y (v .at)) (before j l))
-              (sym (ap (λ (v : Line). y (v .at)) new)));
-          zs-are = rw (f .zs-are) (column-more (old .zs) _ _ held _ (λ j l. ap (λ (v : Line). z (v .at)) (before j l))
-              (sym (ap (λ (v : Line). z (v .at)) new)));
+          spots-are = rw (f .spots-are) (column-more (old .spots) _ _ held _ (λ j l. ap (λ (v : Line). v .at) (before j l))
+              (sym (ap (λ (v : Line). v .at) new)));
         })
 
     pub holds-next : (m v : Float) → r .found ≡ true → m ≡ massWith mass (kind .massed) (kind .mass) → v ≡ vol ⊕ volume (tripleIn (t .boxes) (2 * held + 1))
@@ -322,8 +316,7 @@ module _ (c : Container) (kinds : List Kind) (items : List Instance) (i live hel
     pub next-read : (at : List Float) (m v : Float) → r .found ≡ true → copy ≡ item .instance → at ≡ tripleIn (t .boxes) (2 * held)
         → m ≡ massWith mass (read .massed) (read .mass) → v ≡ vol ⊕ volume (tripleIn (t .boxes) (2 * held + 1))
         → Holds c kinds items (i + 1) (r .live) (held + 1) mostKinds (t .points) (t .boxes) (t .walls) m v old
-        (columns (set (now .ids) held (read .id)) (set (now .instances) held copy) (set (now .turns) held (r .orientation)) (set (now .xs) held (x at))
-        (set (now .ys) held (y at)) (set (now .zs) held (z at)))
+        (columns (set (now .ids) held (read .id)) (set (now .instances) held copy) (set (now .turns) held (r .orientation)) (set (now .spots) held at))
     next-read at m v e g p q w = rw (p, g, read-is) (holds-next right r t step-of m v e (rw read-is at q) w)
 
 -- the same over shorter stores, with any hints
@@ -347,8 +340,7 @@ module _ (c : Container) (kinds : List Kind) (items : List Instance) (i live hel
   pub next-short : length (t .boxes) ≡ length boxes → (at : List Float) (m v : Float) → r .found ≡ true → copy ≡ getD items i noInstance .instance
       → at ≡ tripleIn (t .boxes) (2 * held) → m ≡ massWith mass (read .massed) (read .mass) → v ≡ vol ⊕ volume (tripleIn (t .boxes) (2 * held + 1))
       → Holds c kinds items (i + 1) (r .live) (held + 1) mostKinds (wide (t .points)) (wide (t .boxes)) (wide (t .walls)) m v old
-      (columns (set (now .ids) held (read .id)) (set (now .instances) held copy) (set (now .turns) held (r .orientation)) (set (now .xs) held (x at))
-      (set (now .ys) held (y at)) (set (now .zs) held (z at)))
+      (columns (set (now .ids) held (read .id)) (set (now .instances) held copy) (set (now .turns) held (r .orientation)) (set (now .spots) held at))
   next-short kept at m v e g p q u =
       let few = short .boxes-few in
       let end = short .room .boxes-in in
@@ -365,9 +357,7 @@ filled-long {old} {now} {labels} {boxes} {orientations} {held} f =
       ids = rw (f .ids-are) (filled-length (old .ids) _ held);
       instances = rw (f .instances-are) (filled-length (old .instances) _ held);
       turns = rw (f .turns-are) (filled-length (old .turns) _ held);
-      xs = rw (f .xs-are) (filled-length (old .xs) _ held);
-      ys = rw (f .ys-are) (filled-length (old .ys) _ held);
-      zs = rw (f .zs-are) (filled-length (old .zs) _ held);
+      spots = rw (f .spots-are) (filled-length (old .spots) _ held);
     }
 
 -- after the last box

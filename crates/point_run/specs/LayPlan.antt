@@ -8,7 +8,7 @@ use borrow.Author.Tests.{le-ltb, eq-eqb, ne-eqb}
 use lib.Dec.{eqb}
 use lib.ListN.{getD, take}
 use lib.Ieee.{Float}
-use Rattle.floats.specs.Ops.{none, x, y, z, _⊘_}
+use Rattle.floats.specs.Ops.{none, _⊘_}
 use Rattle.lists.specs.Table.{filled, filled-same, table, table-at, table-same}
 use Rattle.domain.specs.Bounds.{mostKinds, mostBoxes, mostLines}
 use Rattle.domain.specs.Refusals.{when, orElse}
@@ -25,7 +25,7 @@ use Rattle.plan_boxes.specs.declared.Instance.{Instance}
 use Rattle.plan_sheet.specs.declared.Told.{Told}
 use Rattle.plan_sheet.specs.Boxes.{smaller, smaller-le}
 use Rattle.plan_sheet.specs.Plans.{Plan, leftBy, refusedPlan, plannedOf}
-use Rattle.sheet.specs.Columns.{idOf, instanceOf, orientationOf, xOf, yOf, zOf}
+use Rattle.sheet.specs.Columns.{idOf, instanceOf, orientationOf, spotOf}
 use Rattle.plan_sheet.specs.Laid.{planIn, toldOf, laid, Lays}
 use Rattle.plan_sheet.specs.LaidLaws.{laid-all}
 use Rattle.file_read.specs.Form.{rightShape, countsOf}
@@ -112,8 +112,7 @@ module _ (f : List ℕ) (consider : ℕ) (e : refusalOf f ≡ 0) where
         columns-are =
             laid-all (planIn epPackingOf f consider) old now (k .filled-is .ids-are ∙ sym (lines p idOf (old .ids)))
             (k .filled-is .instances-are ∙ sym (lines p instanceOf (old .instances))) (k .filled-is .turns-are ∙ sym (lines p orientationOf (old .turns)))
-            (k .filled-is .xs-are ∙ sym (lines p xOf (old .xs))) (k .filled-is .ys-are ∙ sym (lines p yOf (old .ys)))
-            (k .filled-is .zs-are ∙ sym (lines p zOf (old .zs)));
+            (k .filled-is .spots-are ∙ sym (lines p spotOf (old .spots)));
       }
     where
       lines : planFrom (order .container) (order .kinds) (order .many .kinds) (run n) n ≡ planIn epPackingOf f consider

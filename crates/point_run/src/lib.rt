@@ -69,16 +69,14 @@ fn lay_each(
     ids: &mut [u32],
     instances: &mut [u32],
     turns: &mut [u32],
-    xs: &mut [f64],
-    ys: &mut [f64],
-    zs: &mut [f64],
+    spots: &mut [[f64; 3]],
 ) -> Stand
     requires { ⌜ Ready (now f) (now which) (now copies) (now places) n × StoresFor n (stores (now points) (now boxes) (now walls) (now hints))
         × Blank (now points) (now boxes) (now walls)
-        × Roomy (columns (now ids) (now instances) (now turns) (now xs) (now ys) (now zs)) n ⌝ }
+        × Roomy (columns (now ids) (now instances) (now turns) (now spots)) n ⌝ }
     ensures { λ r. ⌜ EachIs c (sheetOf (now (f .entry)) .kinds) (boxesBy (sheetOf (now (f .entry)))) n
-        (columns (now (ids .entry)) (now (instances .entry)) (now (turns .entry)) (now (xs .entry)) (now (ys .entry)) (now (zs .entry)))
-        r (columns (now (ids .exit)) (now (instances .exit)) (now (turns .exit)) (now (xs .exit)) (now (ys .exit)) (now (zs .exit))) ⌝ }
+        (columns (now (ids .entry)) (now (instances .entry)) (now (turns .entry)) (now (spots .entry)))
+        r (columns (now (ids .exit)) (now (instances .exit)) (now (turns .exit)) (now (spots .exit))) ⌝ }
 {
     let m = c.margin;
     point_state::put_triple(points, 0, [m, m, m]);
@@ -108,9 +106,7 @@ fn lay_each(
         ids[held] = kind.id;
         instances[held] = copies[p];
         turns[held] = s.orientation;
-        xs[held] = at[0];
-        ys[held] = at[1];
-        zs[held] = at[2];
+        spots[held] = at;
         mass = point_state::mass_with(mass, kind.massed, kind.mass);
         volume = volume + measures::measure(size);
         held += 1;
@@ -135,16 +131,14 @@ fn lay_in(
     ids: &mut [u32],
     instances: &mut [u32],
     turns: &mut [u32],
-    xs: &mut [f64],
-    ys: &mut [f64],
-    zs: &mut [f64],
+    spots: &mut [[f64; 3]],
 ) -> Stand
     requires { ⌜ Asked (now f) all n × Tables all (now which) (now copies) (now volumes) (now places)
         × StoresFor n (stores (now points) (now boxes) (now walls) (now hints)) × Blank (now points) (now boxes) (now walls)
-        × Roomy (columns (now ids) (now instances) (now turns) (now xs) (now ys) (now zs)) n ⌝ }
+        × Roomy (columns (now ids) (now instances) (now turns) (now spots)) n ⌝ }
     ensures { λ r. ⌜ EachIs c (sheetOf (now (f .entry)) .kinds) (boxesBy (sheetOf (now (f .entry)))) n
-        (columns (now (ids .entry)) (now (instances .entry)) (now (turns .entry)) (now (xs .entry)) (now (ys .entry)) (now (zs .entry)))
-        r (columns (now (ids .exit)) (now (instances .exit)) (now (turns .exit)) (now (xs .exit)) (now (ys .exit)) (now (zs .exit))) ⌝ }
+        (columns (now (ids .entry)) (now (instances .entry)) (now (turns .entry)) (now (spots .entry)))
+        r (columns (now (ids .exit)) (now (instances .exit)) (now (turns .exit)) (now (spots .exit))) ⌝ }
 {
     list_boxes(f, all, which, copies, volumes);
     point_order::falling(volumes, all, places);
@@ -162,9 +156,7 @@ fn lay_in(
         ids,
         instances,
         turns,
-        xs,
-        ys,
-        zs,
+        spots,
     )
 }
 
@@ -177,14 +169,12 @@ fn lay_few(
     ids: &mut [u32],
     instances: &mut [u32],
     turns: &mut [u32],
-    xs: &mut [f64],
-    ys: &mut [f64],
-    zs: &mut [f64],
+    spots: &mut [[f64; 3]],
 ) -> Stand
-    requires { ⌜ Asked (now f) all n × (all ≤ fewBoxes) × Roomy (columns (now ids) (now instances) (now turns) (now xs) (now ys) (now zs)) n ⌝ }
+    requires { ⌜ Asked (now f) all n × (all ≤ fewBoxes) × Roomy (columns (now ids) (now instances) (now turns) (now spots)) n ⌝ }
     ensures { λ r. ⌜ EachIs c (sheetOf (now (f .entry)) .kinds) (boxesBy (sheetOf (now (f .entry)))) n
-        (columns (now (ids .entry)) (now (instances .entry)) (now (turns .entry)) (now (xs .entry)) (now (ys .entry)) (now (zs .entry)))
-        r (columns (now (ids .exit)) (now (instances .exit)) (now (turns .exit)) (now (xs .exit)) (now (ys .exit)) (now (zs .exit))) ⌝ }
+        (columns (now (ids .entry)) (now (instances .entry)) (now (turns .entry)) (now (spots .entry)))
+        r (columns (now (ids .exit)) (now (instances .exit)) (now (turns .exit)) (now (spots .exit))) ⌝ }
 {
     let mut which = [0usize; domain::FEW_BOXES];
     let mut copies = [0u32; domain::FEW_BOXES];
@@ -210,9 +200,7 @@ fn lay_few(
         ids,
         instances,
         turns,
-        xs,
-        ys,
-        zs,
+        spots,
     )
 }
 
@@ -225,14 +213,12 @@ fn lay_many(
     ids: &mut [u32],
     instances: &mut [u32],
     turns: &mut [u32],
-    xs: &mut [f64],
-    ys: &mut [f64],
-    zs: &mut [f64],
+    spots: &mut [[f64; 3]],
 ) -> Stand
-    requires { ⌜ Asked (now f) all n × Roomy (columns (now ids) (now instances) (now turns) (now xs) (now ys) (now zs)) n ⌝ }
+    requires { ⌜ Asked (now f) all n × Roomy (columns (now ids) (now instances) (now turns) (now spots)) n ⌝ }
     ensures { λ r. ⌜ EachIs c (sheetOf (now (f .entry)) .kinds) (boxesBy (sheetOf (now (f .entry)))) n
-        (columns (now (ids .entry)) (now (instances .entry)) (now (turns .entry)) (now (xs .entry)) (now (ys .entry)) (now (zs .entry)))
-        r (columns (now (ids .exit)) (now (instances .exit)) (now (turns .exit)) (now (xs .exit)) (now (ys .exit)) (now (zs .exit))) ⌝ }
+        (columns (now (ids .entry)) (now (instances .entry)) (now (turns .entry)) (now (spots .entry)))
+        r (columns (now (ids .exit)) (now (instances .exit)) (now (turns .exit)) (now (spots .exit))) ⌝ }
 {
     let mut which = [0usize; domain::MOST_BOXES];
     let mut copies = [0u32; domain::MOST_BOXES];
@@ -258,9 +244,7 @@ fn lay_many(
         ids,
         instances,
         turns,
-        xs,
-        ys,
-        zs,
+        spots,
     )
 }
 
@@ -273,19 +257,17 @@ fn lay_boxes(
     ids: &mut [u32],
     instances: &mut [u32],
     turns: &mut [u32],
-    xs: &mut [f64],
-    ys: &mut [f64],
-    zs: &mut [f64],
+    spots: &mut [[f64; 3]],
 ) -> Stand
-    requires { ⌜ Asked (now f) all n × Roomy (columns (now ids) (now instances) (now turns) (now xs) (now ys) (now zs)) n ⌝ }
+    requires { ⌜ Asked (now f) all n × Roomy (columns (now ids) (now instances) (now turns) (now spots)) n ⌝ }
     ensures { λ r. ⌜ EachIs c (sheetOf (now (f .entry)) .kinds) (boxesBy (sheetOf (now (f .entry)))) n
-        (columns (now (ids .entry)) (now (instances .entry)) (now (turns .entry)) (now (xs .entry)) (now (ys .entry)) (now (zs .entry)))
-        r (columns (now (ids .exit)) (now (instances .exit)) (now (turns .exit)) (now (xs .exit)) (now (ys .exit)) (now (zs .exit))) ⌝ }
+        (columns (now (ids .entry)) (now (instances .entry)) (now (turns .entry)) (now (spots .entry)))
+        r (columns (now (ids .exit)) (now (instances .exit)) (now (turns .exit)) (now (spots .exit))) ⌝ }
 {
     if all <= domain::FEW_BOXES {
-        return lay_few(f, c, all, n, ids, instances, turns, xs, ys, zs);
+        return lay_few(f, c, all, n, ids, instances, turns, spots);
     }
-    lay_many(f, c, all, n, ids, instances, turns, xs, ys, zs)
+    lay_many(f, c, all, n, ids, instances, turns, spots)
 }
 
 // All boxes of the order in a file, largest first, as far as `consider` goes: the plan's lines in the columns, and what is told
@@ -296,15 +278,13 @@ pub fn lay_points(
     ids: &mut [u32],
     instances: &mut [u32],
     turns: &mut [u32],
-    xs: &mut [f64],
-    ys: &mut [f64],
-    zs: &mut [f64],
+    spots: &mut [[f64; 3]],
 ) -> Told
     ensures { λ r. ⌜ Lays (fitting
-        (columns (now (ids .entry)) (now (instances .entry)) (now (turns .entry)) (now (xs .entry)) (now (ys .entry)) (now (zs .entry)))
+        (columns (now (ids .entry)) (now (instances .entry)) (now (turns .entry)) (now (spots .entry)))
         (planIn epPackingOf (now (order .entry)) consider)) r
-        (columns (now (ids .entry)) (now (instances .entry)) (now (turns .entry)) (now (xs .entry)) (now (ys .entry)) (now (zs .entry)))
-        (columns (now (ids .exit)) (now (instances .exit)) (now (turns .exit)) (now (xs .exit)) (now (ys .exit)) (now (zs .exit))) ⌝ }
+        (columns (now (ids .entry)) (now (instances .entry)) (now (turns .entry)) (now (spots .entry)))
+        (columns (now (ids .exit)) (now (instances .exit)) (now (turns .exit)) (now (spots .exit))) ⌝ }
 {
     let a = file_accept::accept(order);
     if a.refused != 0 {
@@ -314,7 +294,7 @@ pub fn lay_points(
     let size = c.size;
     let all = plan_boxes::boxes_of(order, a.kinds);
     let n = plan_sheet::smaller(consider, all);
-    if !sheet::has_room(ids, instances, turns, xs, ys, zs, n as usize) {
+    if !sheet::has_room(ids, instances, turns, spots, n as usize) {
         return plan_sheet::refused_told(6);
     }
     let stand = lay_boxes(
@@ -325,9 +305,7 @@ pub fn lay_points(
         ids,
         instances,
         turns,
-        xs,
-        ys,
-        zs,
+        spots,
     );
     Told {
         refused: 0,

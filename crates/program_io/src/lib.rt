@@ -2,7 +2,7 @@
 // read or written, so these functions have none but to be safe and to end.
 ghost use mathlib.Core.Path.{_≡_};
 ghost use Prim.Native.Nat.{_/_, _%_};
-ghost use Rattle.waikurpeho.specs.Answer.{unit};
+ghost use Rattle.answer_word.specs.Answer.{unit};
 use libc::STDERR_FILENO;
 use libc::STDIN_FILENO;
 
@@ -13,14 +13,14 @@ pub const BYTES: usize = file_read::layout::MOST_BYTES + 1;
 pub fn refusal_of(answer: u64) -> u64
     ensures { λ r. ⌜ r ≡ answer / unit ⌝ }
 {
-    answer / waikurpeho::UNIT
+    answer / answer_word::UNIT
 }
 
 // The count of an answer.
 pub fn count_of(answer: u64) -> usize
     ensures { λ r. ⌜ r ≡ answer % unit ⌝ }
 {
-    (answer % waikurpeho::UNIT) as usize
+    (answer % answer_word::UNIT) as usize
 }
 
 // Whether the input broke off, of which n bytes were read: once it is read to its end, a further read finds nothing and does not fail.

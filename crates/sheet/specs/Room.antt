@@ -12,8 +12,7 @@ use Rattle.sheet.specs.Columns.{Columns}
 -- there is room for n lines
 unfoldable pub hasRoom : Columns → ℕ → Bool
 hasRoom c n =
-    (leb n (length (c .ids)) && (leb n (length (c .instances)) && leb n (length (c .turns))))
-    && (leb n (length (c .xs)) && (leb n (length (c .ys)) && leb n (length (c .zs))))
+    (leb n (length (c .ids)) && leb n (length (c .instances))) && (leb n (length (c .turns)) && leb n (length (c .spots)))
 
 -- ---- laws
 
@@ -21,30 +20,24 @@ pub record Roomy (c : Columns) (n : ℕ) : Type 0 where
   pub ids : n ≤ length (c .ids)
   pub instances : n ≤ length (c .instances)
   pub turns : n ≤ length (c .turns)
-  pub xs : n ≤ length (c .xs)
-  pub ys : n ≤ length (c .ys)
-  pub zs : n ≤ length (c .zs)
+  pub spots : n ≤ length (c .spots)
 
 pub roomy : (c : Columns) (n : ℕ) → hasRoom c n ≡ true → Roomy c n
 unfolding hasRoom
 roomy c n e =
-    let a = and-left (leb n (length (c .ids)) && (leb n (length (c .instances)) && leb n (length (c .turns)))) _ e in
-    let b = and-right (leb n (length (c .ids)) && (leb n (length (c .instances)) && leb n (length (c .turns)))) _ e in
-    let d = and-right (leb n (length (c .ids))) _ a in
-    let f = and-right (leb n (length (c .xs))) _ b in
+    let a = and-left (leb n (length (c .ids)) && leb n (length (c .instances))) _ e in
+    let b = and-right (leb n (length (c .ids)) && leb n (length (c .instances))) _ e in
     record {
       ids = leb-true n _ (and-left (leb n (length (c .ids))) _ a);
-      instances = leb-true n _ (and-left (leb n (length (c .instances))) _ d);
-      turns = leb-true n _ (and-right (leb n (length (c .instances))) _ d);
-      xs = leb-true n _ (and-left (leb n (length (c .xs))) _ b);
-      ys = leb-true n _ (and-left (leb n (length (c .ys))) _ f);
-      zs = leb-true n _ (and-right (leb n (length (c .ys))) _ f);
+      instances = leb-true n _ (and-right (leb n (length (c .ids))) _ a);
+      turns = leb-true n _ (and-left (leb n (length (c .turns))) _ b);
+      spots = leb-true n _ (and-right (leb n (length (c .turns))) _ b);
     }
 
 pub has-room : (c : Columns) (n : ℕ) → Roomy c n → hasRoom c n ≡ true
 unfolding hasRoom
 has-room c n r =
-    rw (le-leb n _ (r .ids), le-leb n _ (r .instances), le-leb n _ (r .turns), le-leb n _ (r .xs), le-leb n _ (r .ys), le-leb n _ (r .zs))
+    rw (le-leb n _ (r .ids), le-leb n _ (r .instances), le-leb n _ (r .turns), le-leb n _ (r .spots))
 
 -- room for more is room for fewer
 pub roomy-less : {c : Columns} {n : ℕ} (m : ℕ) → Roomy c n → m ≤ n → Roomy c m
@@ -53,9 +46,7 @@ roomy-less m r l =
       ids = let h = r .ids in omega arith;
       instances = let h = r .instances in omega arith;
       turns = let h = r .turns in omega arith;
-      xs = let h = r .xs in omega arith;
-      ys = let h = r .ys in omega arith;
-      zs = let h = r .zs in omega arith;
+      spots = let h = r .spots in omega arith;
     }
 
 -- columns of the same lengths have the same room
@@ -63,9 +54,7 @@ pub record AsLong (a b : Columns) : Type 0 where
   pub ids : length (b .ids) ≡ length (a .ids)
   pub instances : length (b .instances) ≡ length (a .instances)
   pub turns : length (b .turns) ≡ length (a .turns)
-  pub xs : length (b .xs) ≡ length (a .xs)
-  pub ys : length (b .ys) ≡ length (a .ys)
-  pub zs : length (b .zs) ≡ length (a .zs)
+  pub spots : length (b .spots) ≡ length (a .spots)
 
 pub long-roomy : {a b : Columns} {n : ℕ} (m : ℕ) → AsLong a b → Roomy a n → m ≤ n → Roomy b m
 long-roomy m e r l =
@@ -73,7 +62,5 @@ long-roomy m e r l =
       ids = omega (arith, e .ids, r .ids);
       instances = omega (arith, e .instances, r .instances);
       turns = omega (arith, e .turns, r .turns);
-      xs = omega (arith, e .xs, r .xs);
-      ys = omega (arith, e .ys, r .ys);
-      zs = omega (arith, e .zs, r .zs);
+      spots = omega (arith, e .spots, r .spots);
     }

@@ -210,19 +210,9 @@ pub fn sheet_refusal(s: Sheet) -> u32
     domain::or_else(block, domain::or_else(kind, domain::or_else(total, line)))
 }
 
-// Whether six lent columns have a cell each for n lines.
-pub fn has_room(
-    ids: &[u32],
-    instances: &[u32],
-    turns: &[u32],
-    xs: &[f64],
-    ys: &[f64],
-    zs: &[f64],
-    n: usize,
-) -> bool
-    ensures { λ r. ⌜ r ≡ hasRoom
-        (columns (now (ids .entry)) (now (instances .entry)) (now (turns .entry)) (now (xs .entry)) (now (ys .entry)) (now (zs .entry))) n ⌝ }
+// Whether four lent columns have a cell each for n lines.
+pub fn has_room(ids: &[u32], instances: &[u32], turns: &[u32], spots: &[[f64; 3]], n: usize) -> bool
+    ensures { λ r. ⌜ r ≡ hasRoom (columns (now (ids .entry)) (now (instances .entry)) (now (turns .entry)) (now (spots .entry))) n ⌝ }
 {
-    let names = (n <= ids.len()) & ((n <= instances.len()) & (n <= turns.len()));
-    names & ((n <= xs.len()) & ((n <= ys.len()) & (n <= zs.len())))
+    ((n <= ids.len()) & (n <= instances.len())) & ((n <= turns.len()) & (n <= spots.len()))
 }

@@ -2,7 +2,7 @@
 use mathlib.Core.List.{List}
 use Prim.Native.Nat.{ℕ}
 use Rattle.check_packing.specs.Check.{fileChecked, fileCells}
-use Rattle.waikurpeho.specs.Answer.{answerOf}
+use Rattle.answer_word.specs.Answer.{answerOf}
 
 -- the count of findings, or the file's refusal, or 6 and the slots needed
 unfoldable pub checkAnswer : List ℕ → List ℕ → ℕ

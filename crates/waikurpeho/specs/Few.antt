@@ -33,7 +33,7 @@ use Rattle.check_packing.specs.Check.{countOf, checkedOf, fileChecked}
 use Rattle.file_read.specs.Reading.{sheetOf, refusalOf}
 use Rattle.file_write.specs.declared.Written.{Written}
 use Rattle.file_write.specs.Writing.{fileLength, writtenOf}
-use Rattle.waikurpeho.specs.Answer.{unit}
+use Rattle.answer_word.specs.Answer.{unit}
 
 only-few : (t : Bool) (ws : List ℕ) (b : ℕ) → length ws ≤ b → length (onlyIf t ws) ≤ b
 only-few true ws b h = h

@@ -8,7 +8,7 @@ use Rattle.fill_thousand.specs.Fill.{fillOf}
 use Rattle.file_read.specs.Reading.{readOf}
 use Rattle.file_read.specs.Reading.{refusalOf}
 use Rattle.fill_thousand.specs.FileFill.{fileFill}
-use Rattle.waikurpeho.specs.Answer.{answerOf}
+use Rattle.answer_word.specs.Answer.{answerOf}
 
 -- the count is 0: the fill can pass 32 bits, so it goes into a lent word of its own
 unfoldable pub fillAnswer : List ℕ → ℕ

@@ -8,7 +8,7 @@ use lib.ListN.{length}
 use Rattle.sheet.specs.declared.Counts.{Counts}
 use Rattle.file_bytes.specs.Stores.{put-length}
 use Rattle.file_write.specs.Writing.{fileLength}
-use Rattle.sheet.specs.Columns.{Columns}
+use Rattle.sheet.specs.Columns.{Columns, columns}
 use Rattle.sheet.specs.Room.{Roomy, roomy}
 use Rattle.file_write.specs.Planned.{overCounts, overPlan}
 use Rattle.file_write.specs.PlanStores.{Holds, holds, plan-few, plan-put, told-over, told-short, told-room, told-written}
@@ -19,35 +19,27 @@ use Rattle.file_write.proofs.write_plan.Tie as tie
 abbrev many : tie.Start → Counts
 many s = record { kinds = s .args .kinds; lines = s .args .placed; unplaced = s .args .unplaced }
 
-abbrev columns : tie.Start → Columns
-columns s =
-    record {
-      ids = s .args .ids .now;
-      instances = s .args .instances .now;
-      turns = s .args .turns .now;
-      xs = s .args .xs .now;
-      ys = s .args .ys .now;
-      zs = s .args .zs .now;
-    }
+abbrev lent : tie.Start → Columns
+lent s = columns (s .args .ids .now) (s .args .instances .now) (s .args .turns .now) (s .args .spots .now)
 
 abbrev start : tie.After-over-counts → tie.Start
-start c = c .before .before .before .before .before .before .before .before .before .before
+start c = c .before .before .before .before .before .before .before
 
 -- the first test
-over-is : (c : tie.After-over-counts) → (c .over-counts .result || not (c .before .has-room .result)) ≡ overPlan (many (start c)) (columns (start c))
+over-is : (c : tie.After-over-counts) → (c .over-counts .result || not (c .before .has-room .result)) ≡ overPlan (many (start c)) (lent (start c))
 over-is c = both _ _ _ _ (c .over-counts .ensures) (ap not (c .before .has-room .ensures))
   where
     both : (a b p q : Bool) → a ≡ p → b ≡ q → (a || b) ≡ (p || q)
     both a b p q d e = rw (d, e)
 
 -- past it the columns hold the counts
-within : (c : tie.Else1) → overPlan (many (start (c .before))) (columns (start (c .before))) ≡ false
+within : (c : tie.Else1) → overPlan (many (start (c .before))) (lent (start (c .before))) ≡ false
 within c = sym (over-is (c .before)) ∙ c .if1 .left
 
 fine : (c : tie.Else1) → Holds (many (start (c .before)))
 fine c = holds _ (or-left _ _ (within c))
 
-cells : (c : tie.Else1) → Roomy (columns (start (c .before))) (start (c .before) .args .placed)
+cells : (c : tie.Else1) → Roomy (lent (start (c .before))) (start (c .before) .args .placed)
 cells c = roomy _ _ (not-true-of _ (or-right (overCounts (many (start (c .before)))) _ (within c)))
 
 -- past the third there is room
@@ -55,7 +47,7 @@ room : (c : tie.Else3) → fileLength (many (start (c .before .before .before .b
 room c = let e = c .before .file-length .ensures in omega arith
 
 returns : tie.Need-returns
-returns c = let s = start (c .before) in told-over _ (many s) (columns s) _ _ (sym (over-is (c .before)) ∙ c .if1 .taken)
+returns c = let s = start (c .before) in told-over _ (many s) (lent s) _ _ (sym (over-is (c .before)) ∙ c .if1 .taken)
 
 mul-start : tie.Need-mul-start
 mul-start c = let h = fine c in omega arith
@@ -66,7 +58,7 @@ add-start c = let h = fine c in omega arith
 returns-2 : tie.Need-returns-2
 returns-2 c =
     let s = start (c .before .before) in
-    told-short _ (many s) (columns s) _ _ (within (c .before)) (c .if2 .taken)
+    told-short _ (many s) (lent s) _ _ (within (c .before)) (c .if2 .taken)
 
 file-length-requires : tie.Need-file-length-requires
 file-length-requires c κs = plan-few _ (fine (c .before))
@@ -76,7 +68,7 @@ returns-3 c =
     let n = c .before in
     let e = n .before .before in
     let s = start (e .before) in
-    told-room _ (many s) (columns s) _ _ _ (within e) (n .before .if2 .left) (n .file-length .ensures) (c .if3 .taken)
+    told-room _ (many s) (lent s) _ _ _ (within e) (n .before .if2 .left) (n .file-length .ensures) (c .if3 .taken)
 
 put-columns-requires : tie.Need-put-columns-requires
 put-columns-requires c κs =
@@ -119,8 +111,8 @@ returns-4 c =
     let n = e .before in
     let o = n .before .before in
     let s = start (o .before) in
-    told-written _ (many s) (columns s) _ _ _ _ (within o) (n .before .if2 .left) (n .file-length .ensures) (e .if3 .left)
-    (plan-put _ (many s) (columns s) _ (n .before .if2 .left) (a .put-head .ensures) (k .put-columns .ensures) (u .put-left .ensures) (t .put-trailer .ensures))
+    told-written _ (many s) (lent s) _ _ _ _ (within o) (n .before .if2 .left) (n .file-length .ensures) (e .if3 .left)
+    (plan-put _ (many s) (lent s) _ (n .before .if2 .left) (a .put-head .ensures) (k .put-columns .ensures) (u .put-left .ensures) (t .put-trailer .ensures))
 
 pub write-plan-spec : {M : Type 1} → statement M
 write-plan-spec =

@@ -11,10 +11,10 @@ use Rattle.plan_run.proofs.layer_fill_in_order.Tie as tie
 returns : tie.Need-returns
 returns c =
     let h = c .before .before in
-    let l = h .before .before .before .before .before .before .before .before .before .before .before .before .before .before in
-    let a = l .before .before .before .before .before .before .before .before .before .args in
+    let l = h .before .before .before .before .before .before .before .before .before .before in
+    let a = l .before .before .before .before .before .before .before .args in
     let n = le-refl mostLines in
-    packs (a .order .now) _ _ (record { ids = n; instances = n; turns = n; xs = n; ys = n; zs = n }) (layers-modest (a .order .now) (a .consider))
+    packs (a .order .now) _ _ (record { ids = n; instances = n; turns = n; spots = n }) (layers-modest (a .order .now) (a .consider))
     (layers-sound (a .order .now) (a .consider)) _ _ _ _ _ (l .lay-layers .ensures) (h .hand-laid .ensures)
 
 pub layer-fill-in-order-spec : {M : Type 1} → statement M
@@ -25,15 +25,11 @@ layer-fill-in-order-spec =
     (λ c. refl)
     (λ c. refl)
     (λ c. refl)
-    (λ c. refl)
-    (λ c. refl)
     (λ c κs. search needs)
-    (λ c. sym (c .before .before .before .before .before .before .before .lay-layers .kept .1 .1 .0))
-    (λ c. sym (c .before .before .before .before .before .before .before .before .lay-layers .kept .1 .1 .1 .0))
-    (λ c. sym (c .before .before .before .before .before .before .before .before .before .lay-layers .kept .1 .1 .1 .1 .0))
-    (λ c. sym (c .before .before .before .before .before .before .before .before .before .before .lay-layers .kept .1 .1 .1 .1 .1 .0))
-    (λ c. sym (c .before .before .before .before .before .before .before .before .before .before .before .lay-layers .kept .1 .1 .1 .1 .1 .1 .0))
-    (λ c. sym (c .before .before .before .before .before .before .before .before .before .before .before .before .lay-layers .kept .1 .1 .1 .1 .1 .1 .1 .0))
+    (λ c. sym (c .before .before .before .before .before .lay-layers .kept .1 .1 .0))
+    (λ c. sym (c .before .before .before .before .before .before .lay-layers .kept .1 .1 .1 .0))
+    (λ c. sym (c .before .before .before .before .before .before .before .lay-layers .kept .1 .1 .1 .1 .0))
+    (λ c. sym (c .before .before .before .before .before .before .before .before .lay-layers .kept .1 .1 .1 .1 .1 .0))
     (λ c κs. search needs)
     (λ c. search needs)
     returns)

@@ -11,10 +11,10 @@ use Rattle.plan_run.proofs.run_ep_packing.Tie as tie
 returns : tie.Need-returns
 returns c =
     let h = c .before .before in
-    let l = h .before .before .before .before .before .before .before .before .before .before .before .before .before .before in
-    let a = l .before .before .before .before .before .before .before .before .before .args in
+    let l = h .before .before .before .before .before .before .before .before .before .before in
+    let a = l .before .before .before .before .before .before .before .args in
     let n = le-refl mostLines in
-    packs (a .order .now) _ _ (record { ids = n; instances = n; turns = n; xs = n; ys = n; zs = n }) (points-modest (a .order .now) (a .consider))
+    packs (a .order .now) _ _ (record { ids = n; instances = n; turns = n; spots = n }) (points-modest (a .order .now) (a .consider))
     (points-sound (a .order .now) (a .consider)) _ _ _ _ _ (l .lay-points .ensures) (h .hand-laid .ensures)
 
 pub run-ep-packing-spec : {M : Type 1} → statement M
@@ -25,15 +25,11 @@ run-ep-packing-spec =
     (λ c. refl)
     (λ c. refl)
     (λ c. refl)
-    (λ c. refl)
-    (λ c. refl)
     (λ c κs. search needs)
-    (λ c. sym (c .before .before .before .before .before .before .before .lay-points .kept .1 .1 .0))
-    (λ c. sym (c .before .before .before .before .before .before .before .before .lay-points .kept .1 .1 .1 .0))
-    (λ c. sym (c .before .before .before .before .before .before .before .before .before .lay-points .kept .1 .1 .1 .1 .0))
-    (λ c. sym (c .before .before .before .before .before .before .before .before .before .before .lay-points .kept .1 .1 .1 .1 .1 .0))
-    (λ c. sym (c .before .before .before .before .before .before .before .before .before .before .before .lay-points .kept .1 .1 .1 .1 .1 .1 .0))
-    (λ c. sym (c .before .before .before .before .before .before .before .before .before .before .before .before .lay-points .kept .1 .1 .1 .1 .1 .1 .1 .0))
+    (λ c. sym (c .before .before .before .before .before .lay-points .kept .1 .1 .0))
+    (λ c. sym (c .before .before .before .before .before .before .lay-points .kept .1 .1 .1 .0))
+    (λ c. sym (c .before .before .before .before .before .before .before .lay-points .kept .1 .1 .1 .1 .0))
+    (λ c. sym (c .before .before .before .before .before .before .before .before .lay-points .kept .1 .1 .1 .1 .1 .0))
     (λ c κs. search needs)
     (λ c. search needs)
     returns)

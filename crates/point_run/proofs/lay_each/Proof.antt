@@ -27,7 +27,7 @@ use Rattle.point_run.proofs.lay_each.Statement.{statement}
 use Rattle.point_run.proofs.lay_each.Tie as tie
 
 abbrev Inv-loop : tie.InvT-loop
-Inv-loop f c which copies places n points₀ boxes₀ walls₀ hints₀ ids₀ instances₀ turns₀ xs₀ ys₀ zs₀ m live₀ held₀ last₀ mass₀ volume₀ i₀ points boxes walls hints ids instances turns xs ys zs live held last mass volume i =
+Inv-loop f c which copies places n points₀ boxes₀ walls₀ hints₀ ids₀ instances₀ turns₀ spots₀ m live₀ held₀ last₀ mass₀ volume₀ i₀ points boxes walls hints ids instances turns spots live held last mass volume i =
     (i ≤ n)
     × (held ≤ i)
     × (length points ≡ length points₀)
@@ -35,16 +35,16 @@ Inv-loop f c which copies places n points₀ boxes₀ walls₀ hints₀ ids₀ i
     × (length walls ≡ length walls₀)
     × (length hints ≡ length hints₀)
     × Holds c (sheetOf f .kinds) (boxesBy (sheetOf f)) i live held last (wide points) (wide boxes) (wide walls) mass volume
-    (columns ids₀ instances₀ turns₀ xs₀ ys₀ zs₀) (columns ids instances turns xs ys zs)
+    (columns ids₀ instances₀ turns₀ spots₀) (columns ids instances turns spots)
 
 abbrev μ-loop : tie.MeasureT-loop
-μ-loop f c which copies places n points₀ boxes₀ walls₀ hints₀ ids₀ instances₀ turns₀ xs₀ ys₀ zs₀ m live₀ held₀ last₀ mass₀ volume₀ i₀ points boxes walls hints ids instances turns xs ys zs live held last mass volume i =
+μ-loop f c which copies places n points₀ boxes₀ walls₀ hints₀ ids₀ instances₀ turns₀ spots₀ m live₀ held₀ last₀ mass₀ volume₀ i₀ points boxes walls hints ids instances turns spots live held last mass volume i =
     n - i
 
 -- ---- what is lent
 
 abbrev begun : tie.After-put-triple Inv-loop μ-loop → tie.Start Inv-loop μ-loop
-begun c = c .before .before .before .before .before .before .before .before .before .before .before .before .before .before .before .before
+begun c = c .before .before .before .before .before .before .before .before .before .before .before .before .before
 
 loop-holds : tie.Need-loop-holds Inv-loop μ-loop
 loop-holds c =
@@ -163,16 +163,16 @@ step-of c = c .before .before .before .before .before .before .before .before .b
 
 -- the stores keep their lengths
 points-kept : (c : tie.After-step Inv-loop μ-loop) → length (c .step .last .0) ≡ length (in-step c .before .loop .points)
-points-kept c = search needs
+points-kept c = c .step .kept .0
 
 boxes-kept : (c : tie.After-step Inv-loop μ-loop) → length (c .step .last .1 .0) ≡ length (in-step c .before .loop .boxes)
-boxes-kept c = search needs
+boxes-kept c = c .step .kept .1 .0
 
 walls-kept : (c : tie.After-step Inv-loop μ-loop) → length (c .step .last .1 .1 .0) ≡ length (in-step c .before .loop .walls)
-walls-kept c = search needs
+walls-kept c = c .step .kept .1 .1 .0
 
 hints-kept : (c : tie.After-step Inv-loop μ-loop) → length (c .step .last .1 .1 .1 .0) ≡ length (in-step c .before .loop .hints)
-hints-kept c = search needs
+hints-kept c = c .step .kept .1 .1 .1 .0
 
 -- the box does not stand
 loop-again-2 : tie.Need-loop-again-2 Inv-loop μ-loop
@@ -206,7 +206,7 @@ box-below c = short-at (in-step (step-else c)) .room .held-in
 
 -- the columns have a cell for it
 abbrev now-at : In → Columns
-now-at c = let l = c .before .loop in columns (l .ids) (l .instances) (l .turns) (l .xs) (l .ys) (l .zs)
+now-at c = let l = c .before .loop in columns (l .ids) (l .instances) (l .turns) (l .spots)
 
 column-room : (c : In) → Roomy (now-at c) (c .before .loop .held + 1)
 column-room c =
@@ -218,9 +218,7 @@ column-room c =
       ids = let a = q .ids in let e = s .ids in omega (arith, h, a, e);
       instances = let a = q .instances in let e = s .instances in omega (arith, h, a, e);
       turns = let a = q .turns in let e = s .turns in omega (arith, h, a, e);
-      xs = let a = q .xs in let e = s .xs in omega (arith, h, a, e);
-      ys = let a = q .ys in let e = s .ys in omega (arith, h, a, e);
-      zs = let a = q .zs in let e = s .zs in omega (arith, h, a, e);
+      spots = let a = q .spots in let e = s .spots in omega (arith, h, a, e);
     }
 
 in-room : (c : tie.After-triple-at2 Inv-loop μ-loop) → in-step (step-put c) .before .loop .held < mostBoxes
@@ -260,7 +258,7 @@ points-same c = let p = c .before .before .before .before in c .before .loop .in
 
 returns : tie.Need-returns Inv-loop μ-loop
 returns c =
-    let e : c .before .loop .i ≡ c .before .before .before .before .before .before .before .before .before .before .before .before .before .before .before .before .before .before .before .before .args .n = omega arith in
+    let e : c .before .loop .i ≡ c .before .before .before .before .before .before .before .before .before .before .before .before .before .before .before .before .before .args .n = omega arith in
     rw e at (holds-all _ _ _ _ _ _ _ _ _ _ _ _ _ _ (c .before .loop .inv .6))
 
 pub lay-each-spec : {M : Type 1} → statement M
@@ -278,12 +276,9 @@ lay-each-spec =
     (λ c. let b = few-places (in-step (step-put c)) in omega (arith, b)) (λ c. in-copies (in-step (step-put (c .before))))
     (λ c. let r = in-room (c .before) in omega (arith, r)) (λ c. let r = cell-room (c .before) .instances in omega (arith, r))
     (λ c. let r = in-room (c .before) in omega (arith, r)) (λ c. let r = cell-room (c .before) .turns in omega (arith, r))
-    (λ c. omega arith) (λ c. let r = in-room (c .before) in omega (arith, r)) (λ c. let r = cell-room (c .before) .xs in omega (arith, r))
-    (λ c. omega arith) (λ c. let r = in-room (c .before) in omega (arith, r)) (λ c. let r = cell-room (c .before) .ys in omega (arith, r))
-    (λ c. omega arith) (λ c. let r = in-room (c .before) in omega (arith, r)) (λ c. let r = cell-room (c .before) .zs in omega (arith, r))
+    (λ c. let r = in-room (c .before) in omega (arith, r)) (λ c. let r = cell-room (c .before) .spots in omega (arith, r))
     (λ c κs. tt) (λ c κs. tt) (λ c. let r = in-room (c .before .before .before) in omega (arith, r)) loop-less-3 loop-again-3
     points-same (λ c. c .before .loop .inv .3) (λ c. c .before .loop .inv .4) (λ c. c .before .loop .inv .5)
     (λ c. filled-long (c .before .loop .inv .6 .filled-is) .ids) (λ c. filled-long (c .before .loop .inv .6 .filled-is) .instances)
-    (λ c. filled-long (c .before .loop .inv .6 .filled-is) .turns) (λ c. filled-long (c .before .loop .inv .6 .filled-is) .xs)
-    (λ c. filled-long (c .before .loop .inv .6 .filled-is) .ys) (λ c. filled-long (c .before .loop .inv .6 .filled-is) .zs)
+    (λ c. filled-long (c .before .loop .inv .6 .filled-is) .turns) (λ c. filled-long (c .before .loop .inv .6 .filled-is) .spots)
     returns)

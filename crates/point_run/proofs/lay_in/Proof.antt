@@ -11,14 +11,14 @@ use Rattle.point_run.proofs.lay_in.Statement.{statement}
 use Rattle.point_run.proofs.lay_in.Tie as tie
 
 abbrev start : tie.After-list-boxes → tie.Start
-start c = c .before .before .before .before .before .before .before .before .before .before .before .before .before .before .before .before .before .before .before
+start c = c .before .before .before .before .before .before .before .before .before .before .before .before .before .before .before .before
 
 abbrev asked : (c : tie.Start) → Asked (c .args .f .now) (c .args .all) (c .args .n)
 asked c = c .pre .0
 
 list-boxes-requires : tie.Need-list-boxes-requires
 list-boxes-requires c κs =
-    let s = c .before .before .before .before .before .before .before .before .before .before .before .before .before .before .before .before .before .before in
+    let s = c .before .before .before .before .before .before .before .before .before .before .before .before .before .before .before in
     let q = asked s in
     let t = s .pre .1 in
     (in-file _ _ (q .can-read) (q .right) (let e = q .all-is in omega (arith, e)), t .which-in, t .copies-in, t .volumes-in)
@@ -26,8 +26,8 @@ list-boxes-requires c κs =
 abbrev listed : tie.After-falling → tie.After-list-boxes
 listed c = c .before .before .before .before .before .before .before .before .before
 
-abbrev sorted : tie.After-lay-each-arg13 → tie.After-falling
-sorted c = c .before .before .before .before .before .before .before .before .before .before .before .before .before .before .before
+abbrev sorted : tie.After-lay-each-arg11 → tie.After-falling
+sorted c = c .before .before .before .before .before .before .before .before .before .before .before .before .before
 
 lay-each-requires : tie.Need-lay-each-requires
 lay-each-requires c κs =
@@ -42,51 +42,45 @@ abbrev laid : tie.After-lay-each → tie.Start
 laid c = start (listed (sorted (c .before)))
 
 which-same : (c : tie.After-list-boxes) → length (c .list-boxes .last .1 .1 .0) ≡ length (start c .args .which .now)
-which-same c = search needs
+which-same c = c .list-boxes .kept .1 .1 .0
 
 copies-same : (c : tie.After-list-boxes) → length (c .list-boxes .last .1 .1 .1 .0) ≡ length (start c .args .copies .now)
-copies-same c = search needs
+copies-same c = c .list-boxes .kept .1 .1 .1 .0
 
 volumes-same : (c : tie.After-list-boxes) → length (c .list-boxes .last .1 .1 .1 .1 .0) ≡ length (start c .args .volumes .now)
-volumes-same c = search needs
+volumes-same c = c .list-boxes .kept .1 .1 .1 .1 .0
 
 places-same : (c : tie.After-falling) → length (c .falling .last .1 .1 .0) ≡ length (start (listed c) .args .places .now)
-places-same c = search needs
+places-same c = c .falling .kept .1 .1 .0
 
 points-same : (c : tie.After-lay-each) → length (c .lay-each .last .1 .1 .1 .1 .1 .1 .0) ≡ length (laid c .args .points .now)
-points-same c = search needs
+points-same c = c .lay-each .kept .1 .1 .1 .1 .1 .1 .0
 
 boxes-same : (c : tie.After-lay-each) → length (c .lay-each .last .1 .1 .1 .1 .1 .1 .1 .0) ≡ length (laid c .args .boxes .now)
-boxes-same c = search needs
+boxes-same c = c .lay-each .kept .1 .1 .1 .1 .1 .1 .1 .0
 
 walls-same : (c : tie.After-lay-each) → length (c .lay-each .last .1 .1 .1 .1 .1 .1 .1 .1 .0) ≡ length (laid c .args .walls .now)
-walls-same c = search needs
+walls-same c = c .lay-each .kept .1 .1 .1 .1 .1 .1 .1 .1 .0
 
 hints-same : (c : tie.After-lay-each) → length (c .lay-each .last .1 .1 .1 .1 .1 .1 .1 .1 .1 .0) ≡ length (laid c .args .hints .now)
-hints-same c = search needs
+hints-same c = c .lay-each .kept .1 .1 .1 .1 .1 .1 .1 .1 .1 .0
 
 ids-same : (c : tie.After-lay-each) → length (c .lay-each .last .1 .1 .1 .1 .1 .1 .1 .1 .1 .1 .0) ≡ length (laid c .args .ids .now)
-ids-same c = search needs
+ids-same c = c .lay-each .kept .1 .1 .1 .1 .1 .1 .1 .1 .1 .1 .0
 
 instances-same : (c : tie.After-lay-each) → length (c .lay-each .last .1 .1 .1 .1 .1 .1 .1 .1 .1 .1 .1 .0) ≡ length (laid c .args .instances .now)
-instances-same c = search needs
+instances-same c = c .lay-each .kept .1 .1 .1 .1 .1 .1 .1 .1 .1 .1 .1 .0
 
 turns-same : (c : tie.After-lay-each) → length (c .lay-each .last .1 .1 .1 .1 .1 .1 .1 .1 .1 .1 .1 .1 .0) ≡ length (laid c .args .turns .now)
-turns-same c = search needs
+turns-same c = c .lay-each .kept .1 .1 .1 .1 .1 .1 .1 .1 .1 .1 .1 .1 .0
 
-xs-same : (c : tie.After-lay-each) → length (c .lay-each .last .1 .1 .1 .1 .1 .1 .1 .1 .1 .1 .1 .1 .1 .0) ≡ length (laid c .args .xs .now)
-xs-same c = search needs
+spots-same : (c : tie.After-lay-each) → length (c .lay-each .last .1 .1 .1 .1 .1 .1 .1 .1 .1 .1 .1 .1 .1 .0) ≡ length (laid c .args .spots .now)
+spots-same c = c .lay-each .kept .1 .1 .1 .1 .1 .1 .1 .1 .1 .1 .1 .1 .1 .0
 
-ys-same : (c : tie.After-lay-each) → length (c .lay-each .last .1 .1 .1 .1 .1 .1 .1 .1 .1 .1 .1 .1 .1 .1 .0) ≡ length (laid c .args .ys .now)
-ys-same c = search needs
+abbrev laid-at : tie.After-spots → tie.After-lay-each
+laid-at c = c .before .before .before .before .before .before .before .before .before .before .before .before .before .before .before
 
-zs-same : (c : tie.After-lay-each) → length (c .lay-each .last .1 .1 .1 .1 .1 .1 .1 .1 .1 .1 .1 .1 .1 .1 .1 .0) ≡ length (laid c .args .zs .now)
-zs-same c = search needs
-
-abbrev laid-at : tie.After-slice-known28 → tie.After-lay-each
-laid-at c = c .before .before .before .before .before .before .before .before .before .before .before .before .before .before .before .before .before .before .before .before
-
-abbrev sorted-at : tie.After-slice-known28 → tie.After-falling
+abbrev sorted-at : tie.After-spots → tie.After-falling
 sorted-at c = sorted (laid-at c .before)
 
 returns : tie.Need-returns
@@ -98,4 +92,4 @@ lay-in-spec =
     (tie.spec list-boxes-requires (λ c κs. tt) lay-each-requires
     (λ c. which-same (listed (sorted-at c))) (λ c. copies-same (listed (sorted-at c))) (λ c. volumes-same (listed (sorted-at c)))
     (λ c. places-same (sorted-at c)) (λ c. points-same (laid-at c)) (λ c. boxes-same (laid-at c)) (λ c. walls-same (laid-at c)) (λ c. hints-same (laid-at c)) (λ c. ids-same (laid-at c))
-    (λ c. instances-same (laid-at c)) (λ c. turns-same (laid-at c)) (λ c. xs-same (laid-at c)) (λ c. ys-same (laid-at c)) (λ c. zs-same (laid-at c)) returns)
+    (λ c. instances-same (laid-at c)) (λ c. turns-same (laid-at c)) (λ c. spots-same (laid-at c)) returns)

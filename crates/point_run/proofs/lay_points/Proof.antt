@@ -29,8 +29,8 @@ use Rattle.point_run.proofs.lay_points.Tie as tie
 
 abbrev lent : tie.After-accept → Columns
 lent c =
-    let a = c .before .before .before .before .before .before .before .before .args in
-    columns (a .ids .now) (a .instances .now) (a .turns .now) (a .xs .now) (a .ys .now) (a .zs .now)
+    let a = c .before .before .before .before .before .args in
+    columns (a .ids .now) (a .instances .now) (a .turns .now) (a .spots .now)
 
 returns : tie.Need-returns
 returns c =
@@ -45,10 +45,10 @@ abbrev accept-at : tie.Else1 → tie.After-accept
 accept-at c = c .before .before
 
 abbrev file : tie.Else1 → List ℕ
-file c = accept-at c .before .before .before .before .before .before .before .before .args .order .now
+file c = accept-at c .before .before .before .before .before .args .order .now
 
 abbrev consider : tie.Else1 → ℕ
-consider c = accept-at c .before .before .before .before .before .before .before .before .args .consider
+consider c = accept-at c .before .before .before .before .before .args .consider
 
 abbrev order : tie.Else1 → Sheet
 order c = sheetOf (file c)
@@ -79,7 +79,7 @@ n-is c = c .smaller .ensures ∙ ap (smaller (consider (else-of (c .before)))) (
 -- ---- the room in the columns
 
 abbrev counted : tie.After-has-room → tie.After-smaller
-counted c = c .before .before .before .before .before .before .before
+counted c = c .before .before .before .before .before
 
 abbrev else-at : tie.After-has-room → tie.Else1
 else-at c = else-of (counted c .before)
@@ -102,7 +102,7 @@ has c = not-false (c .before .has-room .result) (c .if2 .left)
 
 lay-boxes-requires : tie.Need-lay-boxes-requires
 lay-boxes-requires c κs =
-    let e = c .before .before .before .before .before .before in
+    let e = c .before .before .before .before in
     let h = e .before in
     let n = counted h in
     let o = else-at h in (
@@ -118,12 +118,12 @@ lay-boxes-requires c κs =
 -- ---- the plan
 
 abbrev laid-at : tie.After-struct-known2 → tie.After-lay-boxes
-laid-at c = c .before .before .before .before .before .before .before .before .before .before .before .before .before .before
+laid-at c = c .before .before .before .before .before .before .before .before .before
 
 returns-3 : tie.Need-returns-3
 returns-3 c =
     let d = laid-at c in
-    let e = d .before .before .before .before .before .before .before in
+    let e = d .before .before .before .before .before in
     let n = counted (e .before) in
     let o = else-at (e .before) in
     rw (fits-in (lent (accept-at o)) (plan o) (room-is (e .before) true (has e)))
@@ -133,29 +133,23 @@ returns-3 c =
 -- the columns keep their lengths
 
 abbrev start-of : tie.After-lay-boxes → tie.Start
-start-of c = accept-at (else-at (c .before .before .before .before .before .before .before .before)) .before .before .before .before .before .before .before .before
+start-of c = accept-at (else-at (c .before .before .before .before .before .before)) .before .before .before .before .before
 
 ids-same : (c : tie.After-lay-boxes) → length (c .lay-boxes .last .1 .1 .1 .1 .0) ≡ length (start-of c .args .ids .now)
-ids-same c = search needs
+ids-same c = c .lay-boxes .kept .1 .1 .1 .1 .0
 
 instances-same : (c : tie.After-lay-boxes) → length (c .lay-boxes .last .1 .1 .1 .1 .1 .0) ≡ length (start-of c .args .instances .now)
-instances-same c = search needs
+instances-same c = c .lay-boxes .kept .1 .1 .1 .1 .1 .0
 
 turns-same : (c : tie.After-lay-boxes) → length (c .lay-boxes .last .1 .1 .1 .1 .1 .1 .0) ≡ length (start-of c .args .turns .now)
-turns-same c = search needs
+turns-same c = c .lay-boxes .kept .1 .1 .1 .1 .1 .1 .0
 
-xs-same : (c : tie.After-lay-boxes) → length (c .lay-boxes .last .1 .1 .1 .1 .1 .1 .1 .0) ≡ length (start-of c .args .xs .now)
-xs-same c = search needs
-
-ys-same : (c : tie.After-lay-boxes) → length (c .lay-boxes .last .1 .1 .1 .1 .1 .1 .1 .1 .0) ≡ length (start-of c .args .ys .now)
-ys-same c = search needs
-
-zs-same : (c : tie.After-lay-boxes) → length (c .lay-boxes .last .1 .1 .1 .1 .1 .1 .1 .1 .1 .0) ≡ length (start-of c .args .zs .now)
-zs-same c = search needs
+spots-same : (c : tie.After-lay-boxes) → length (c .lay-boxes .last .1 .1 .1 .1 .1 .1 .1 .0) ≡ length (start-of c .args .spots .now)
+spots-same c = c .lay-boxes .kept .1 .1 .1 .1 .1 .1 .1 .0
 
 pub lay-points-spec : {M : Type 1} → statement M
 lay-points-spec =
     tie.close
     (tie.spec (λ c κs. tt) (λ c κs. tt) returns (λ c κs. tt) (λ c κs. tt) (λ c κs. tt) (λ c κs. tt) (λ c κs. tt)
-    (λ c. refl) (λ c. refl) (λ c. refl) (λ c. refl) (λ c. refl) (λ c. refl) returns-2 lay-boxes-requires (λ c κs. tt)
-    (λ c. ids-same (laid-at c)) (λ c. instances-same (laid-at c)) (λ c. turns-same (laid-at c)) (λ c. xs-same (laid-at c)) (λ c. ys-same (laid-at c)) (λ c. zs-same (laid-at c)) returns-3)
+    (λ c. refl) (λ c. refl) (λ c. refl) (λ c. refl) returns-2 lay-boxes-requires (λ c κs. tt)
+    (λ c. ids-same (laid-at c)) (λ c. instances-same (laid-at c)) (λ c. turns-same (laid-at c)) (λ c. spots-same (laid-at c)) returns-3)

@@ -20,26 +20,26 @@ use Rattle.layer_plan.proofs.items.lay_each.Statement.{statement}
 use Rattle.layer_plan.proofs.items.lay_each.Tie as tie
 
 abbrev Inv-loop : tie.InvT-loop
-Inv-loop f records items n ids₀ instances₀ turns₀ xs₀ ys₀ zs₀ stand₀ held₀ j₀ ids instances turns xs ys zs stand held j =
+Inv-loop f records items n ids₀ instances₀ turns₀ spots₀ stand₀ held₀ j₀ ids instances turns spots stand held j =
     (j ≤ n)
     × (held ≤ j)
     × Holds (runFrom (empty (stand₀ .container)) (sheetOf f .kinds) (itemOffer records items) j) stand held
-    (columns ids₀ instances₀ turns₀ xs₀ ys₀ zs₀) (columns ids instances turns xs ys zs)
+    (columns ids₀ instances₀ turns₀ spots₀) (columns ids instances turns spots)
 
 abbrev μ-loop : tie.MeasureT-loop
-μ-loop f records items n ids₀ instances₀ turns₀ xs₀ ys₀ zs₀ stand₀ held₀ j₀ ids instances turns xs ys zs stand held j = n - j
+μ-loop f records items n ids₀ instances₀ turns₀ spots₀ stand₀ held₀ j₀ ids instances turns spots stand held j = n - j
 
 loop-holds : tie.Need-loop-holds Inv-loop μ-loop
 unfolding runFrom
 loop-holds c = (omega arith, omega arith, record { stand-is = rw (c .new .ensures); count-is = refl; columns-are = shown-none _ _ refl })
 
 abbrev start : tie.At-loop Inv-loop μ-loop → tie.Start Inv-loop μ-loop
-start l = l .before .before .before .before .before .before .before .before .before .before .before .before
+start l = l .before .before .before .before .before .before .before .before .before
 
 -- the columns keep their lengths
 kept : (l : tie.At-loop Inv-loop μ-loop) → let a = start l .args in AsLong
-    (columns (a .ids .now) (a .instances .now) (a .turns .now) (a .xs .now) (a .ys .now) (a .zs .now))
-    (columns (l .loop .ids) (l .loop .instances) (l .loop .turns) (l .loop .xs) (l .loop .ys) (l .loop .zs))
+    (columns (a .ids .now) (a .instances .now) (a .turns .now) (a .spots .now))
+    (columns (l .loop .ids) (l .loop .instances) (l .loop .turns) (l .loop .spots))
 kept l = shown-alike _ _ _ (l .loop .inv .2 .columns-are)
 
 try-item-requires : tie.Need-try-item-requires Inv-loop μ-loop
@@ -47,13 +47,13 @@ try-item-requires c κs = (start (c .before) .pre .0, omega arith)
 
 put-line-requires : tie.Need-put-line-requires Inv-loop μ-loop
 put-line-requires c κs =
-    let v = c .before .before .before .before .before .before in
+    let v = c .before .before .before .before in
     let l = v .before .before .before in
     long-roomy _ (kept l) (start l .pre .1) (omega arith)
 
 add-j : tie.Need-add-j Inv-loop μ-loop
 add-j c =
-    let v = c .before .before .before .before .before .before .before .before .before .before .before .before .before .before .before .before .before .before .before .before in
+    let v = c .before .before .before .before .before .before .before .before .before .before .before .before .before in
     let l = v .before .before .before in
     let few = start l .pre .0 .few in
     omega (arith, v .before .before .loop-test .taken)
@@ -61,11 +61,11 @@ add-j c =
 loop-again : tie.Need-loop-again Inv-loop μ-loop
 unfolding runFrom
 loop-again c =
-    let q = c .before .before .before .before .before .before .before .before .before .before .before .before .before in
-    let v = q .before .before .before .before .before .before .before in
+    let q = c .before .before .before .before .before .before .before .before in
+    let v = q .before .before .before .before .before in
     let i = v .before in
     let l = i .before .before in
-    let s = l .before .before .before .before .before .before .before .before .before .before .before .before in
+    let s = l .before .before .before .before .before .before .before .before .before in
     let kinds = sheetOf (s .args .f .now) .kinds in
     let offer = itemOffer (s .args .records .now) (s .args .items .now) in
     let e = l .before .new .result .container in
@@ -86,7 +86,7 @@ loop-again c =
 returns : tie.Need-returns Inv-loop μ-loop
 returns c =
     let l = c .before .before in
-    let s = l .before .before .before .before .before .before .before .before .before .before .before .before in
+    let s = l .before .before .before .before .before .before .before .before .before in
     let e : l .loop .j ≡ s .args .n = omega arith in
     let b = ap (λ (v : Stand). v .container) (l .before .new .ensures) ∙ l .before .before .container-in .ensures ∙ container-is _ (s .pre .0 .can-read) in
     rw (c .utilization .ensures) (shows _ _ _ _ _ _ (rw b at (rw e at (l .loop .inv .2))))
@@ -109,7 +109,5 @@ lay-each-spec =
     (λ c. kept (c .before .before) .ids)
     (λ c. kept (c .before .before) .instances)
     (λ c. kept (c .before .before) .turns)
-    (λ c. kept (c .before .before) .xs)
-    (λ c. kept (c .before .before) .ys)
-    (λ c. kept (c .before .before) .zs)
+    (λ c. kept (c .before .before) .spots)
     returns)

@@ -1,5 +1,5 @@
 -- `items::lay_items` meets its contract: a refusal in its turn, the columns' too, or the fill of the items.
-use mathlib.Core.Path.{_≡_, sym, ap, _∙_}
+use mathlib.Core.Path.{_≡_, refl, sym, ap, _∙_}
 use mathlib.Core.Bool.{Bool, true, false}
 use mathlib.Core.List.{List}
 use Prim.Native.Nat.{ℕ}
@@ -33,10 +33,10 @@ returns-2 c =
     (items-refused _ _ _ _ (a .before .if1 .left) _ (ap (λ (v : Accepted). v .refused) (a .accept .ensures) ∙ refusal-is _) (c .before .if2 .taken)))
 
 abbrev start : tie.Else2 → tie.Start
-start c = c .before .before .before .before .before .before .before .before .before .before .before .before .before
+start c = c .before .before .before .before .before .before .before .before .before .before
 
 abbrev cols : tie.Start → Columns
-cols s = columns (s .args .ids .now) (s .args .instances .now) (s .args .turns .now) (s .args .xs .now) (s .args .ys .now) (s .args .zs .now)
+cols s = columns (s .args .ids .now) (s .args .instances .now) (s .args .turns .now) (s .args .spots .now)
 
 -- past the second test the file is accepted
 known : (c : tie.Else2) → Taken (start c .args .order .now) (c .before .before .accept .result)
@@ -80,7 +80,7 @@ made m =
 
 -- whether the columns have room for them
 abbrev counts-of : tie.After-has-room → tie.After-smaller
-counts-of c = c .before .before .before .before .before .before .before
+counts-of c = c .before .before .before .before .before
 
 room-is : (c : tie.After-has-room) → let s = start (counts-of c .before .before .before) in c .has-room .result
     ≡ hasRoom (cols s) (itemsIn (s .args .order .now) (s .args .records .now) (s .args .items .now) (s .args .consider) .considered)
@@ -91,8 +91,8 @@ returns-4 c =
     let h = c .before .before in
     rw (c .refused-told4 .ensures) (lays-short _ _ (sym (room-is h) ∙ not-true (h .has-room .result) (c .before .if4 .taken)))
 
-abbrev else-of : tie.After-lay-each-arg6 → tie.Else4
-else-of c = c .before .before .before .before .before .before
+abbrev else-of : tie.After-lay-each-arg4 → tie.Else4
+else-of c = c .before .before .before .before
 
 roomy-of : (c : tie.Else4) → Roomy (cols (start (counts-of (c .before) .before .before .before))) (counts-of (c .before) .smaller .result)
 roomy-of c = roomy _ _ (sym (c .before .has-room .ensures) ∙ not-false (c .before .has-room .result) (c .if4 .left))
@@ -102,7 +102,7 @@ lay-each-requires c κs = (fits (counts-of (else-of c .before)), roomy-of (else-
 
 returns-5 : tie.Need-returns-5
 returns-5 c =
-    let d = c .before .before .before .before .before .before .before .before .before .before .before .before in
+    let d = c .before .before .before .before .before .before .before in
     let o = else-of (d .before) in
     lays-fitting _ _ _ _ (sym (room-is (o .before)) ∙ not-false (o .before .has-room .result) (o .if4 .left))
     (lays-made _ _ _ _ _ _ (made (counts-of (o .before))) (d .lay-each .ensures))
@@ -123,18 +123,14 @@ lay-items-spec =
     (λ c κs. search needs)
     (λ c κs. search needs)
     (λ c κs. search needs)
-    (λ c. search needs)
-    (λ c. search needs)
-    (λ c. search needs)
-    (λ c. search needs)
-    (λ c. search needs)
-    (λ c. search needs)
+    (λ c. refl)
+    (λ c. refl)
+    (λ c. refl)
+    (λ c. refl)
     returns-4
     lay-each-requires
-    (λ c. search needs)
-    (λ c. search needs)
-    (λ c. search needs)
-    (λ c. search needs)
-    (λ c. search needs)
-    (λ c. search needs)
+    (λ c. c .before .before .before .before .before .before .before .lay-each .kept .1 .1 .1 .1 .0)
+    (λ c. c .before .before .before .before .before .before .before .lay-each .kept .1 .1 .1 .1 .1 .0)
+    (λ c. c .before .before .before .before .before .before .before .lay-each .kept .1 .1 .1 .1 .1 .1 .0)
+    (λ c. c .before .before .before .before .before .before .before .lay-each .kept .1 .1 .1 .1 .1 .1 .1 .0)
     returns-5)

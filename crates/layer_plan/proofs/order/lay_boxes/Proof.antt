@@ -25,15 +25,15 @@ use Rattle.layer_plan.proofs.order.lay_boxes.Statement.{statement}
 use Rattle.layer_plan.proofs.order.lay_boxes.Tie as tie
 
 abbrev Inv-loop : tie.InvT-loop
-Inv-loop f n ids₀ instances₀ turns₀ xs₀ ys₀ zs₀ stand₀ u₀ held₀ t₀ ids instances turns xs ys zs stand u held t =
+Inv-loop f n ids₀ instances₀ turns₀ spots₀ stand₀ u₀ held₀ t₀ ids instances turns spots stand u held t =
     (t ≤ n)
     × (held ≤ t)
     × (u ≡ turnOf (sheetOf f .kinds) t)
     × Holds (runFrom (empty (stand₀ .container)) (sheetOf f .kinds) (bestOffer (sheetOf f .kinds)) t) stand held
-    (columns ids₀ instances₀ turns₀ xs₀ ys₀ zs₀) (columns ids instances turns xs ys zs)
+    (columns ids₀ instances₀ turns₀ spots₀) (columns ids instances turns spots)
 
 abbrev μ-loop : tie.MeasureT-loop
-μ-loop f n ids₀ instances₀ turns₀ xs₀ ys₀ zs₀ stand₀ u₀ held₀ t₀ ids instances turns xs ys zs stand u held t = n - t
+μ-loop f n ids₀ instances₀ turns₀ spots₀ stand₀ u₀ held₀ t₀ ids instances turns spots stand u held t = n - t
 
 loop-holds : tie.Need-loop-holds Inv-loop μ-loop
 unfolding turnOf runFrom
@@ -41,35 +41,35 @@ loop-holds c =
     (omega arith, omega arith, refl, record { stand-is = rw (c .new .ensures); count-is = refl; columns-are = shown-none _ _ refl })
 
 abbrev start : tie.At-loop Inv-loop μ-loop → tie.Start Inv-loop μ-loop
-start l = l .before .before .before .before .before .before .before .before .before .before
+start l = l .before .before .before .before .before .before .before
 
 -- the columns keep their lengths
 kept : (l : tie.At-loop Inv-loop μ-loop) → let a = start l .args in AsLong
-    (columns (a .ids .now) (a .instances .now) (a .turns .now) (a .xs .now) (a .ys .now) (a .zs .now))
-    (columns (l .loop .ids) (l .loop .instances) (l .loop .turns) (l .loop .xs) (l .loop .ys) (l .loop .zs))
+    (columns (a .ids .now) (a .instances .now) (a .turns .now) (a .spots .now))
+    (columns (l .loop .ids) (l .loop .instances) (l .loop .turns) (l .loop .spots))
 kept l = shown-alike _ _ _ (l .loop .inv .3 .columns-are)
 
 -- the kind of the turn's box is one of the file's, and what is read there is the sheet's
 within : (c : tie.After-kind-in Inv-loop μ-loop)
-    → c .before .before .loop .u .kind < countsOf (c .before .before .before .before .before .before .before .before .before .before .before .before .args .f .now) .kinds
+    → c .before .before .loop .u .kind < countsOf (c .before .before .before .before .before .before .before .before .before .args .f .now) .kinds
 within c =
     let l = c .before .before in
-    let s = l .before .before .before .before .before .before .before .before .before .before in
+    let s = l .before .before .before .before .before .before .before in
     rw (l .loop .inv .2) (s .pre .0 .kind-within (l .loop .t) (omega arith))
 
 kind-read : (c : tie.After-kind-in Inv-loop μ-loop)
-    → c .kind-in .result ≡ kindAt (sheetOf (c .before .before .before .before .before .before .before .before .before .before .before .before .args .f .now)) (c .before .before .loop .u .kind)
-kind-read c = c .kind-in .ensures ∙ kind-is _ _ (c .before .before .before .before .before .before .before .before .before .before .before .before .pre .0 .can-read) (within c)
+    → c .kind-in .result ≡ kindAt (sheetOf (c .before .before .before .before .before .before .before .before .before .args .f .now)) (c .before .before .loop .u .kind)
+kind-read c = c .kind-in .ensures ∙ kind-is _ _ (c .before .before .before .before .before .before .before .before .before .pre .0 .can-read) (within c)
 
 put-line-requires : tie.Need-put-line-requires Inv-loop μ-loop
 put-line-requires c κs =
-    let p = c .before .before .before .before .before .before in
+    let p = c .before .before .before .before in
     let l = p .before .before .before in
     long-roomy _ (kept l) (start l .pre .1) (omega arith)
 
 add-t : tie.Need-add-t Inv-loop μ-loop
 add-t c =
-    let p = c .before .before .before .before .before .before .before .before .before .before .before .before .before .before .before .before .before .before .before .before .before in
+    let p = c .before .before .before .before .before .before .before .before .before .before .before .before .before .before in
     let l = p .before .before .before in
     let few = start l .pre .0 .few in
     omega (arith, p .before .before .loop-test .taken)
@@ -77,11 +77,11 @@ add-t c =
 loop-again : tie.Need-loop-again Inv-loop μ-loop
 unfolding runFrom offered bestOffer turnOf quantityOf
 loop-again c =
-    let q = c .before .before .before .before .before .before .before .before .before .before .before .before .before .before in
-    let p = q .before .before .before .before .before .before .before in
+    let q = c .before .before .before .before .before .before .before .before .before in
+    let p = q .before .before .before .before .before in
     let k = p .before in
     let l = k .before .before in
-    let s = l .before .before .before .before .before .before .before .before .before .before in
+    let s = l .before .before .before .before .before .before .before in
     let kinds = sheetOf (s .args .f .now) .kinds in
     let t = l .loop .t in
     let e = l .before .new .result .container in
@@ -106,7 +106,7 @@ loop-again c =
 returns : tie.Need-returns Inv-loop μ-loop
 returns c =
     let l = c .before .before in
-    let s = l .before .before .before .before .before .before .before .before .before .before in
+    let s = l .before .before .before .before .before .before .before in
     let e : l .loop .t ≡ s .args .n = omega arith in
     let b = ap (λ (v : Stand). v .container) (l .before .new .ensures) ∙ l .before .before .container-in .ensures ∙ container-is _ (s .pre .0 .can-read) in
     rw (c .utilization .ensures) (shows _ _ _ _ _ _ (rw b at (rw e at (l .loop .inv .3))))
@@ -131,7 +131,5 @@ lay-boxes-spec =
     (λ c. kept (c .before .before) .ids)
     (λ c. kept (c .before .before) .instances)
     (λ c. kept (c .before .before) .turns)
-    (λ c. kept (c .before .before) .xs)
-    (λ c. kept (c .before .before) .ys)
-    (λ c. kept (c .before .before) .zs)
+    (λ c. kept (c .before .before) .spots)
     returns)

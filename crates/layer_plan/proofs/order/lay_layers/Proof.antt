@@ -1,6 +1,6 @@
 -- `order::lay_layers` meets its contract: the file's refusal, the columns', or the fill of its order.
 use Prim.Native.Nat.{ℕ}
-use mathlib.Core.Path.{_≡_, sym, ap, _∙_}
+use mathlib.Core.Path.{_≡_, refl, sym, ap, _∙_}
 use mathlib.Core.Bool.{true, false}
 use native.Mathlib.Omega.{arith}
 use borrow.Author.Needs.{needs}
@@ -24,7 +24,7 @@ use Rattle.layer_plan.proofs.order.lay_layers.Statement.{statement}
 use Rattle.layer_plan.proofs.order.lay_layers.Tie as tie
 
 abbrev cols : tie.Start → Columns
-cols s = columns (s .args .ids .now) (s .args .instances .now) (s .args .turns .now) (s .args .xs .now) (s .args .ys .now) (s .args .zs .now)
+cols s = columns (s .args .ids .now) (s .args .instances .now) (s .args .turns .now) (s .args .spots .now)
 
 returns : tie.Need-returns
 returns c =
@@ -34,7 +34,7 @@ returns c =
     (lays-refused-in _ _ _ (refused-in layerFillOf _ _ _ (ap (λ (v : Accepted). v .refused) (a .accept .ensures) ∙ refusal-is _) (t .if1 .taken)))
 
 abbrev start : tie.Else1 → tie.Start
-start c = c .before .before .before .before .before .before .before .before .before .before
+start c = c .before .before .before .before .before .before .before
 
 -- past the test the file is accepted, and as many boxes are considered as it says
 known : (c : tie.Else1) → Taken (start c .args .order .now) (c .before .before .accept .result)
@@ -54,7 +54,7 @@ made m = rw (counted m) (filled-in _ (start (m .before .before) .args .consider)
 
 -- whether the columns have room for them
 abbrev counts-of : tie.After-has-room → tie.After-smaller
-counts-of c = c .before .before .before .before .before .before .before
+counts-of c = c .before .before .before .before .before
 
 room-is : (c : tie.After-has-room) → let s = start (counts-of c .before .before) in
     c .has-room .result ≡ hasRoom (cols s) (planIn layerFillOf (s .args .order .now) (s .args .consider) .considered)
@@ -65,8 +65,8 @@ returns-2 c =
     let h = c .before .before in
     rw (c .refused-told2 .ensures) (lays-short _ _ (sym (room-is h) ∙ not-true (h .has-room .result) (c .before .if2 .taken)))
 
-abbrev else-of : tie.After-lay-boxes-arg6 → tie.Else2
-else-of c = c .before .before .before .before .before .before
+abbrev else-of : tie.After-lay-boxes-arg4 → tie.Else2
+else-of c = c .before .before .before .before
 
 roomy-of : (c : tie.Else2) → Roomy (cols (start (counts-of (c .before) .before .before))) (counts-of (c .before) .smaller .result)
 roomy-of c = roomy _ _ (sym (c .before .has-room .ensures) ∙ not-false (c .before .has-room .result) (c .if2 .left))
@@ -80,8 +80,8 @@ lay-boxes-requires c κs =
     let l = smaller-le (a .consider) (total (sheetOf (a .order .now))) in
     (in-file _ _ (t .can-read) (accepted _ (sheet-sound _ (t .sound))) (omega arith), roomy-of (else-of c))
 
-abbrev laid-of : tie.After-slice-known12 → tie.After-lay-boxes
-laid-of c = c .before .before .before .before .before .before .before .before .before .before .before .before
+abbrev laid-of : tie.After-spots → tie.After-lay-boxes
+laid-of c = c .before .before .before .before .before .before .before
 
 returns-3 : tie.Need-returns-3
 returns-3 c =
@@ -101,18 +101,14 @@ lay-layers-spec =
     (λ c κs. search needs)
     (λ c κs. search needs)
     (λ c κs. search needs)
-    (λ c. search needs)
-    (λ c. search needs)
-    (λ c. search needs)
-    (λ c. search needs)
-    (λ c. search needs)
-    (λ c. search needs)
+    (λ c. refl)
+    (λ c. refl)
+    (λ c. refl)
+    (λ c. refl)
     returns-2
     lay-boxes-requires
-    (λ c. search needs)
-    (λ c. search needs)
-    (λ c. search needs)
-    (λ c. search needs)
-    (λ c. search needs)
-    (λ c. search needs)
+    (λ c. c .before .before .before .before .before .before .before .lay-boxes .kept .1 .1 .0)
+    (λ c. c .before .before .before .before .before .before .before .lay-boxes .kept .1 .1 .1 .0)
+    (λ c. c .before .before .before .before .before .before .before .lay-boxes .kept .1 .1 .1 .1 .0)
+    (λ c. c .before .before .before .before .before .before .before .lay-boxes .kept .1 .1 .1 .1 .1 .0)
     returns-3)

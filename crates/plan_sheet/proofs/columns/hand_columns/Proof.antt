@@ -17,10 +17,10 @@ use Rattle.plan_sheet.proofs.columns.hand_columns.Statement.{statement}
 use Rattle.plan_sheet.proofs.columns.hand_columns.Tie as tie
 
 abbrev start : tie.After-hand-refusal → tie.Start
-start c = c .before .before .before .before .before .before .before .before .before .before .before
+start c = c .before .before .before .before .before .before .before .before
 
 abbrev cols : tie.Start → Columns
-cols s = columns (s .args .ids .now) (s .args .instances .now) (s .args .turns .now) (s .args .xs .now) (s .args .ys .now) (s .args .zs .now)
+cols s = columns (s .args .ids .now) (s .args .instances .now) (s .args .turns .now) (s .args .spots .now)
 
 abbrev plan : tie.Start → Plan
 plan s = planBy (s .args .told) (s .args .left) (cols s)

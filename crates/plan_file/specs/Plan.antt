@@ -11,7 +11,7 @@ use Rattle.plan_sheet.specs.Plans.{Plan}
 use Rattle.plan_sheet.specs.Planned.{PlanSheet, sheetFrom}
 use Rattle.file_read.specs.Reading.{readOf}
 use Rattle.file_write.specs.Writing.{writtenOf, bytesAfter}
-use Rattle.waikurpeho.specs.Answer.{answerOf}
+use Rattle.answer_word.specs.Answer.{answerOf}
 
 -- the planned sheet's length, or the plan's refusal, or 6 and the length needed
 unfoldable pub planAnswer : Sheet → Plan → ℕ → ℕ

@@ -17,8 +17,8 @@ use Rattle.plan_sheet.specs.Plans.{Plan}
 use Rattle.plan_sheet.specs.Planned.{plannedSheet}
 use Rattle.point_run.specs.Runs.{epPackingOf}
 use Rattle.layer_plan.specs.Fills.{layerFillOf}
-use Rattle.waikurpeho.specs.Answer.{answerOf}
-use Rattle.waikurpeho.specs.Plan.{planAnswer, orderAnswer}
+use Rattle.answer_word.specs.Answer.{answerOf}
+use Rattle.plan_file.specs.Plan.{planAnswer, orderAnswer}
 use Rattle.plan_laws.specs.Accepted.{Taken, points-accepted, layers-accepted}
 
 -- the length of the planned sheet's file, with 6 where there is less room

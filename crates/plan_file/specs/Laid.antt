@@ -46,8 +46,8 @@ use Rattle.plan_laws.specs.Fits.{Modest, points-modest, layers-modest, Fits, fi
 use Rattle.plan_laws.specs.Bins.{points-bins, layers-bins}
 use Rattle.point_run.specs.Runs.{epPackingOf}
 use Rattle.layer_plan.specs.Fills.{layerFillOf}
-use Rattle.waikurpeho.specs.Answer.{unit, answerOf}
-use Rattle.waikurpeho.specs.Plan.{Planner, planAnswer, planBytes, planFigures, orderAnswer, orderBytes, orderFigures, Answers}
+use Rattle.answer_word.specs.Answer.{unit, answerOf}
+use Rattle.plan_file.specs.Plan.{Planner, planAnswer, planBytes, planFigures, orderAnswer, orderBytes, orderFigures, Answers}
 
 -- ---- what is written of a plan that is told of, with the ids that its lines leave
 

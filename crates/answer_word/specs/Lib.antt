@@ -1,0 +1,2 @@
+-- An answer of the boundary.
+pub mod Answer
