@@ -102,16 +102,23 @@ pub fn room_for_all(s: &Sheet) -> usize {
     5 * (6 * n + n * n / 2 + 1 + s.kinds.len() + s.unplaced.len())
 }
 
+/// Calls that take less than this are timed several at a time, as the clock itself takes some tens of nanoseconds.
+const NANOSECONDS: f64 = 5_000.0;
+
 /// The shortest time of one call in nanoseconds, over rounds that fill about `milliseconds`.
 pub fn shortest(milliseconds: u64, mut call: impl FnMut()) -> f64 {
-    call();
+    let mut round = |calls: u32| {
+        let start = Instant::now();
+        (0..calls).for_each(|_| call());
+        start.elapsed().as_nanos() as f64 / f64::from(calls)
+    };
+    round(1);
+    let calls = (NANOSECONDS / round(8)).ceil().max(1.0) as u32;
     let all = Instant::now();
     let mut best = f64::INFINITY;
     let mut rounds = 0;
     while rounds < 5 || all.elapsed().as_millis() < u128::from(milliseconds) {
-        let one = Instant::now();
-        call();
-        best = best.min(one.elapsed().as_nanos() as f64);
+        best = best.min(round(calls));
         rounds += 1;
     }
     best

@@ -83,7 +83,8 @@ fn counted(at: usize, on: bool) -> usize
     at
 }
 
-// What two lines get, whose boxes are a and b. Past the last cell nothing is stored, and only whether there is a finding counts.
+// What two lines get, whose boxes are a and b, and q a hint for their distance. Past the last cell nothing is stored, and only whether
+// there is a finding counts.
 fn put_pair(
     out: &mut [u64],
     at: usize,
@@ -95,6 +96,7 @@ fn put_pair(
     asked: f64,
     t: f64,
     close: f64,
+    q: u64,
 ) -> usize
     requires { ⌜ (at < mostWords) × Fair close asked t ⌝ }
     ensures { λ r. ⌜ Wrote (now (out .entry)) at (onlyIf known (verdictWords i j asked (verdictOf a b asked t))) r (now (out .exit)) × (r ≤ at + 5) ⌝ }
@@ -102,7 +104,7 @@ fn put_pair(
     if out.len() <= at {
         return counted(at, known & check_pair::is_found(a, b, asked, t, close));
     }
-    let v = check_pair::judge(a, b, asked, t);
+    let v = check_pair::judge(a, b, asked, t, q);
     put_verdict(out, at, known, i, j, asked, v)
 }
 
@@ -165,6 +167,34 @@ fn near_end(e: Extent, boxes: &[f64], spans: &[f64], from: usize, to: usize, qui
     from
 }
 
+// Hints for the distances of the box e from those of the lines from `from` up to `to`, of one block; none where they are not wanted, or
+// the last of these lines is far, as then few of them take a root. All are made before the first is used, as a root that waits for
+// its own hint holds up the next.
+fn hints_of(
+    wanted: bool,
+    e: Extent,
+    boxes: &[f64],
+    from: usize,
+    to: usize,
+    limit: f64,
+) -> [u64; BLOCK]
+    requires { ⌜ (from < to) × (6 * to ≤ length (now boxes)) ⌝ }
+{
+    let mut hints = [0; BLOCK];
+    if !wanted {
+        return hints;
+    }
+    if check_pair::is_far(e, box_at(boxes, to - 1), limit) {
+        return hints;
+    }
+    let mut j = from;
+    while j < to {
+        hints[(j - from) % BLOCK] = check_pair::hint(e, box_at(boxes, j));
+        j += 1;
+    }
+    hints
+}
+
 // What line i gets with the lines from `from` up to `to`, one by one.
 fn put_each(
     out: &mut [u64],
@@ -172,20 +202,25 @@ fn put_each(
     which: &[usize],
     boxes: &[f64],
     rule: Rule,
-    close: f64,
+    quick: Quick,
     i: usize,
     from: usize,
     to: usize,
 ) -> usize
     requires { ⌜ (i < from) × ((from ≤ to) × ((to ≤ rule .lines) × ((rule .lines ≤ length (now which)) × ((6 * rule .lines ≤ length (now boxes))
-        × ((at + 5 * (to - from) < mostWords) × ((rule .slack ≡ toleranceOf (rule .case .size)) × Fair close (rule .case .spacing) (rule .slack))))))) ⌝ }
+        × ((at + 5 * (to - from) < mostWords) × ((rule .slack ≡ toleranceOf (rule .case .size))
+        × Fair (quick .close) (rule .case .spacing) (rule .slack))))))) ⌝ }
     ensures { λ r. ⌜ Went (now (out .entry)) at (pairFound (boxesIn rule (now (which .entry)) (now (boxes .entry))) i) from to r (now (out .exit)) ⌝ }
 {
+    if to <= from {
+        return at;
+    }
     let m = rule.kinds;
     let c = rule.case;
     let asked = c.spacing;
     let e = box_at(boxes, i);
     let known = which[i] < m;
+    let hints = hints_of(at < out.len(), e, boxes, from, to, quick.limit);
     let mut p = at;
     let mut j = from;
     while j < to {
@@ -200,7 +235,8 @@ fn put_each(
             b,
             asked,
             rule.slack,
-            close,
+            quick.close,
+            hints[(j - from) % BLOCK],
         );
         j += 1;
     }
@@ -230,7 +266,7 @@ fn put_from(
     while j < n {
         let to = block::block_end(j, n);
         let end = near_end(e, boxes, spans, j, to, quick);
-        p = put_each(out, p, which, boxes, rule, quick.close, i, j, end);
+        p = put_each(out, p, which, boxes, rule, quick, i, j, end);
         j = to;
     }
     p

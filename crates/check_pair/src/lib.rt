@@ -1,6 +1,7 @@
 // The verdict on one pair of boxes, and the checker's tolerance. RULES: Tolerance, Findings: pairs
 ghost use mathlib.Core.Path.{_≡_};
 ghost use Prim.Native.Nat.{_<_};
+ghost use Rattle.check_root.specs.Hint.{hintOf};
 ghost use Rattle.check_pair.specs.Tolerance.{magnitude, toleranceOf};
 ghost use Rattle.check_pair.specs.Pair.{gap, gaps, overlaps, squared, sumOf, distanceOf, verdictOf};
 ghost use Rattle.check_pair.specs.Shortcut.{plain, someGap, farEnough, limitOf};
@@ -81,10 +82,23 @@ fn sum_of(g: [f64; 3]) -> f64
     (squared(g[0]) + squared(g[1])) + squared(g[2])
 }
 
-fn distance(g: [f64; 3]) -> f64
+// The distance, whatever number q is: the hint of these gaps, with which it is quicker, or 0 for none.
+fn distance(g: [f64; 3], q: u64) -> f64
     ensures { λ r. ⌜ r ≡ distanceOf g ⌝ }
 {
-    check_root::sqrt(sum_of(g))
+    let s = sum_of(g);
+    if q == 0 {
+        return check_root::sqrt(s);
+    }
+    check_root::sqrt_by(s, q)
+}
+
+// A hint for the root that a verdict on two boxes may take, to be handed to `judge`. No branch, so that the hints of many pairs are
+// worked out side by side.
+pub fn hint(a: Extent, b: Extent) -> u64
+    ensures { λ r. ⌜ r ≡ hintOf (sumOf (gaps a b)) ⌝ }
+{
+    check_root::hint(sum_of(gaps(a, b)))
 }
 
 // A number whose square neither overflows nor loses digits.
@@ -108,8 +122,9 @@ fn far_enough(g: [f64; 3], least: f64) -> bool
     (least <= 0.0) | (plain(least) & some_gap(least, g))
 }
 
-// The verdict on two boxes that are to be `asked` apart, with the tolerance t.
-pub fn judge(a: Extent, b: Extent, asked: f64, t: f64) -> Verdict
+// The verdict on two boxes that are to be `asked` apart, with the tolerance t, whatever number q is: their `hint`, with which it is
+// quicker, or 0 for none.
+pub fn judge(a: Extent, b: Extent, asked: f64, t: f64, q: u64) -> Verdict
     ensures { λ r. ⌜ r ≡ verdictOf a b asked t ⌝ }
 {
     let g = gaps(a, b);
@@ -120,7 +135,7 @@ pub fn judge(a: Extent, b: Extent, asked: f64, t: f64) -> Verdict
     if far_enough(g, least) {
         return Verdict::Apart;
     }
-    let d = distance(g);
+    let d = distance(g, q);
     if d < least {
         return Verdict::TooClose(d);
     }

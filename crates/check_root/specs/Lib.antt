@@ -1,4 +1,4 @@
--- The square check_root: of whole numbers, of floats, what it is by squares, and that it is that.
+-- The square root: of whole numbers, of floats, what it is by squares, and that it is that; and what a hint is.
 pub mod Root
 pub mod Sqrt
 pub mod Squares
@@ -9,3 +9,4 @@ pub mod Pattern
 pub mod Round
 pub mod Rounded
 pub mod Cases
+pub mod Hint

@@ -5,6 +5,7 @@ ghost use mathlib.Core.Bool.{cond};
 ghost use lib.Ieee.{binary64};
 ghost use Rattle.check_root.specs.Root.{nearRoot};
 ghost use Rattle.check_root.specs.Sqrt.{rounded, sqrtOf, mag};
+ghost use Rattle.check_root.specs.Hint.{hintOf};
 
 // m * 4 ^ g, in units of 4 ^ -1074
 struct Scaled {
@@ -181,12 +182,24 @@ fn near_by(m: u64, k: u64) -> u64
     k + r - 1
 }
 
-// A number that is nearly always within one of it. g and h come near the root and near half of 1 / root, both by the same factor at
-// each of three steps; then what is left of x is divided out.
-fn estimate(x: f64, b: u64) -> u64
-    requires { ⌜ b < 2047 * 2 ^ 52 ⌝ }
-    ensures { λ r. ⌜ (1 < r) × (r < 2 ^ 53) ⌝ }
+// The root of the number with this bit pattern, by a number q whose last 52 digits its own are tried with. A carry to 2^53 moves the
+// exponent on by itself.
+fn of_pattern(b: u64, q: u64) -> f64
+    requires { ⌜ (0 < b) × (b < 2047 * 2 ^ 52) ⌝ }
+    ensures { λ r. ⌜ r ≡ rounded binary64 (mag b * 2 ^ 1074) ⌝ }
 {
+    let s = normal(units(b));
+    let k = q % 4503599627370496 + 4503599627370496;
+    floats::of_bits(near_by(s.m, k) + (s.g - 26) * 4503599627370496)
+}
+
+// A pattern near that of the root of x, to be handed to `sqrt_by`: for a number above zero it nearly always is that or next to it. g and
+// h come near the root and near half of 1 / root, both by the same factor at each of three steps; then what is left of x is divided
+// out. No branch, so that the hints of many numbers are worked out side by side.
+pub fn hint(x: f64) -> u64
+    ensures { λ r. ⌜ r ≡ hintOf x ⌝ }
+{
+    let b = floats::bits_of(x) % 9223372036854775808;
     let y = floats::of_bits(6910469410427058089 - b / 2);
     let g0 = x * y;
     let h0 = 0.5 * y;
@@ -199,21 +212,12 @@ fn estimate(x: f64, b: u64) -> u64
     let f2 = 1.5 - g2 * h2;
     let g = g2 * f2;
     let h = h2 * f2;
-    let q = floats::bits_of(g + h * (x - g * g));
-    q % 4503599627370496 + 4503599627370496
+    floats::bits_of(g + h * (x - g * g))
 }
 
-// The root of the number with this bit pattern. A carry to 2^53 moves the exponent on by itself.
-fn of_pattern(x: f64, b: u64) -> f64
-    requires { ⌜ (0 < b) × (b < 2047 * 2 ^ 52) ⌝ }
-    ensures { λ r. ⌜ r ≡ rounded binary64 (mag b * 2 ^ 1074) ⌝ }
-{
-    let s = normal(units(b));
-    floats::of_bits(near_by(s.m, estimate(x, b)) + (s.g - 26) * 4503599627370496)
-}
-
-// The square root of every float: a zero's and infinity's are themselves, and below zero there is none.
-pub fn sqrt(x: f64) -> f64
+// The square root of every float, whatever q is: a zero's and infinity's are themselves, and below zero there is none. With `hint(x)` for
+// q it is quick, as then a test by squares is nearly always enough.
+pub fn sqrt_by(x: f64, q: u64) -> f64
     ensures { λ r. ⌜ r ≡ sqrtOf binary64 x ⌝ }
 {
     if x != x {
@@ -227,8 +231,15 @@ pub fn sqrt(x: f64) -> f64
     }
     let b = floats::bits_of(x);
     if b < 0x7ff0_0000_0000_0000 {
-        of_pattern(x, b)
+        of_pattern(b, q)
     } else {
         x
     }
+}
+
+// The square root of every float.
+pub fn sqrt(x: f64) -> f64
+    ensures { λ r. ⌜ r ≡ sqrtOf binary64 x ⌝ }
+{
+    sqrt_by(x, hint(x))
 }

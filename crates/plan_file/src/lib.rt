@@ -110,11 +110,23 @@ fn plan_long(
     )
 }
 
+// Whether more boxes are considered than few cells hold, read off the order before it is tested, so that it is tested once, in columns
+// that do. Nothing is claimed of it: an order that few cells turn out not to hold gets more.
+fn is_long(order: &[u8], consider: u64) -> bool {
+    let sections = records::sections_of(order);
+    let many = sections.many;
+    (domain::FEW_LINES as u64)
+        < plan_sheet::smaller(consider, plan_boxes::boxes_of(order, many.kinds))
+}
+
 // The plan of an order by extreme points, in few cells where they do.
 pub fn plan_points(order: &[u8], consider: u64, sheet: &mut [u8], figures: &mut [u64; 2]) -> u64
     ensures { λ r. ⌜ Answers epPackingOf (now (order .entry)) consider (now (sheet .entry)) (now (figures .entry)) r (now (sheet .exit))
         (now (figures .exit)) ⌝ }
 {
+    if is_long(order, consider) {
+        return plan_long(true, order, consider, sheet, figures);
+    }
     let mut ids = [0u32; domain::FEW_LINES];
     let mut instances = [0u32; domain::FEW_LINES];
     let mut orientations = [0u32; domain::FEW_LINES];
@@ -147,6 +159,9 @@ pub fn plan_layers(order: &[u8], consider: u64, sheet: &mut [u8], figures: &mut 
     ensures { λ r. ⌜ Answers layerFillOf (now (order .entry)) consider (now (sheet .entry)) (now (figures .entry)) r (now (sheet .exit))
         (now (figures .exit)) ⌝ }
 {
+    if is_long(order, consider) {
+        return plan_long(false, order, consider, sheet, figures);
+    }
     let mut ids = [0u32; domain::FEW_LINES];
     let mut instances = [0u32; domain::FEW_LINES];
     let mut turned = [0u32; domain::FEW_LINES];

@@ -37,10 +37,10 @@ fn main() {
         let rust = time_rust(&input, MILLISECONDS);
         let port = time_port(&input);
         let (us, ratio) = match port {
-            Some(t) => (format!("{:.2}", t / 1e3), format!("{:.3}", t / rust)),
+            Some(t) => (format!("{:.3}", t / 1e3), format!("{:.3}", t / rust)),
             None => ("-".to_string(), "-".to_string()),
         };
         let engine = format!("{:?}", input.engine);
-        println!("{engine:<8} {:<28} {:>5} {:>12.2} {us:>12} {ratio:>6}", input.name, input.boxes, rust / 1e3);
+        println!("{engine:<8} {:<28} {:>5} {:>12.3} {us:>12} {ratio:>6}", input.name, input.boxes, rust / 1e3);
     }
 }

@@ -8,5 +8,9 @@ returns : tie.Need-returns
 unfolding distanceOf
 returns c = cc
 
+returns-2 : tie.Need-returns-2
+unfolding distanceOf
+returns-2 c = cc
+
 pub distance-spec : {M : Type 1} → statement M
-distance-spec = tie.close (tie.spec (λ c κs. search needs) (λ c κs. search needs) returns)
+distance-spec = tie.close (tie.spec (λ c κs. search needs) (λ c κs. search needs) returns (λ c κs. search needs) returns-2)

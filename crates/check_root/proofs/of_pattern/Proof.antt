@@ -11,7 +11,7 @@ use Rattle.check_root.proofs.of_pattern.Tie as tie
 returns : tie.Need-returns
 returns c =
     let near = c .before .before .near-by .ensures in
-    let at-normal = c .before .before .before .before in
+    let at-normal = c .before .before .before in
     let norm = at-normal .normal .ensures in
     let units = at-normal .before .units .ensures in
     c .of-bits .ensures
@@ -22,5 +22,5 @@ returns c =
 pub of-pattern-spec : {M : Type 1} → statement M
 of-pattern-spec =
     tie.close
-    (tie.spec (λ c κs. search needs) (λ c κs. search needs) (λ c κs. search needs) (λ c κs. search needs) (λ c. search needs) (λ c. search needs)
+    (tie.spec (λ c κs. search needs) (λ c κs. search needs) (λ c. search needs) (λ c κs. search needs) (λ c. search needs) (λ c. search needs)
     (λ c. search needs) (λ c κs. search needs) returns)

@@ -15,17 +15,23 @@ use Rattle.check_list.proofs.pair.put_each.Statement.{statement}
 use Rattle.check_list.proofs.pair.put_each.Tie as tie
 
 abbrev Inv-loop : tie.InvT-loop
-Inv-loop out₀ at which boxes rule close i from to m asked e known p₀ j₀ out p j =
+Inv-loop out₀ at which boxes rule quick i from to m asked e known hints p₀ j₀ out p j =
     (from ≤ j) × (j ≤ to) × (p ≤ at + 5 * (j - from)) × (length out ≡ length out₀)
     × ((b : List ℕ) (q : ℕ) → Wrote b q (allBelow (pairFound (boxesIn rule which boxes) i) from) at out₀
     → Wrote b q (allBelow (pairFound (boxesIn rule which boxes) i) j) p out)
 
 abbrev μ-loop : tie.MeasureT-loop
-μ-loop out₀ at which boxes rule close i from to m asked e known p₀ j₀ out p j = to - j
+μ-loop out₀ at which boxes rule quick i from to m asked e known hints p₀ j₀ out p j = to - j
 
 -- the place where the function begins, from the loop
 abbrev start : tie.At-loop Inv-loop μ-loop → tie.Start Inv-loop μ-loop
-start l = l .before .before .before .before .before .before .before
+start l = l .before .before .before .before .before .before .before .before .before
+
+returns : tie.Need-returns Inv-loop μ-loop
+returns c =
+    let s = c .before .before .before .before in
+    let e : s .args .from ≡ s .args .to = omega (arith, c .if1 .taken, s .pre) in
+    record { as-long = refl; few = omega arith; words = λ o q before. rw e at before }
 
 loop-holds : tie.Need-loop-holds Inv-loop μ-loop
 loop-holds c = (omega arith, omega arith, omega arith, refl, λ b q w. w)
@@ -43,7 +49,7 @@ loop-again c =
     let b = p .before .before .before in
     let n = b .before in
     let l = n .before in
-    let a = l .before .before in
+    let a = l .before .before .before in
     let s = start l in
     let i = l .loop .inv in
     let less = n .loop-test .taken in
@@ -61,8 +67,8 @@ loop-again c =
 same-length : tie.Need-same-length Inv-loop μ-loop
 same-length c = c .before .loop .inv .3
 
-returns : tie.Need-returns Inv-loop μ-loop
-returns c =
+returns-2 : tie.Need-returns-2 Inv-loop μ-loop
+returns-2 c =
     let l = c .before in
     let i = l .loop .inv in
     let s = start l in
@@ -75,16 +81,21 @@ put-each-spec =
     (tie.spec
     Inv-loop
     μ-loop
+    returns
     (λ c κs. omega arith)
     (λ c. search needs)
     (λ c. omega arith)
+    (λ c κs. (omega arith, omega arith))
     loop-holds
     (λ c κs. omega arith)
     (λ c. search needs)
     (λ c. omega arith)
+    (λ c. omega arith)
+    (λ c. search needs)
+    (λ c. search needs)
     put-pair-requires
     (λ c. omega arith)
     (λ c. omega arith)
     loop-again
     same-length
-    returns)
+    returns-2)

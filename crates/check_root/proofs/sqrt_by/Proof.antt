@@ -1,4 +1,4 @@
--- `check_root::sqrt` meets its contract: each test settles its case, and the numbers above zero go by their pattern.
+-- `check_root::sqrt_by` meets its contract: each test settles its case, and the numbers above zero go by their pattern.
 use mathlib.Core.Path.{sym, subst, ap, _∙_}
 use Prim.Native.Nat.{ℕ, _*_, _<_, _≤_, _^_}
 use lib.Dec.{T}
@@ -6,8 +6,8 @@ use lib.Ieee.{binary64, fits}
 use borrow.Author.Needs.{needs}
 use Rattle.check_root.specs.Sqrt.{rounded, mag}
 use Rattle.check_root.specs.Cases.{at-nan, at-zero, at-negative, View, view, pattern-pos, at-infinity, at-number}
-use Rattle.check_root.proofs.sqrt.Statement.{statement}
-use Rattle.check_root.proofs.sqrt.Tie as tie
+use Rattle.check_root.proofs.sqrt_by.Statement.{statement}
+use Rattle.check_root.proofs.sqrt_by.Tie as tie
 
 -- after the tests the float is the infinity or above zero, and the format holds it, since it is an `f64`
 seen : (c : tie.After-bits-of) → View (c .before .before .before .before .args .x)
@@ -41,5 +41,5 @@ returns-4 c =
 returns-5 : tie.Need-returns-5
 returns-5 c = at-infinity _ (seen (c .before)) (held (c .before)) (subst (λ (b : ℕ). 2047 * 2 ^ 52 ≤ b) (c .before .bits-of .ensures) (c .if4 .left))
 
-pub sqrt-spec : {M : Type 1} → statement M
-sqrt-spec = tie.close (tie.spec returns returns-2 returns-3 (λ c κs. search needs) of-pattern-requires returns-4 returns-5)
+pub sqrt-by-spec : {M : Type 1} → statement M
+sqrt-by-spec = tie.close (tie.spec returns returns-2 returns-3 (λ c κs. search needs) of-pattern-requires returns-4 returns-5)
