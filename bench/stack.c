@@ -9,10 +9,10 @@
 
 #define STACK (4u << 20)
 #define PAINT 0xA5
-#define FILE_MOST 60000
-#define WORDS (5u * 64 * 1024)
+/* room for the most findings that a sheet can have, so that they are written in one pass: check_words, `roomFor` */
+#define WORDS (WK_WORDS * (6u * WK_MOST_LINES + WK_MOST_LINES * WK_MOST_LINES / 2 + WK_MOST_KINDS + WK_MOST_UNPLACED + 1))
 
-static unsigned char file[FILE_MOST + 1], out[FILE_MOST];
+static unsigned char file[WK_MOST_BYTES + 1], out[WK_MOST_BYTES];
 static uint64_t words[WORDS], figures[2];
 static size_t length;
 

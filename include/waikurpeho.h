@@ -11,7 +11,7 @@
  * A pointer must be valid for as many elements as are said beside it, also where that is none. Lent memory must not overlap other memory of the
  * same call.
  *
- * The most stack that a call takes, by a painted stack (tools/test_stack): wk_check 22 KiB, wk_plan_points 64 KiB, wk_plan_layers 16 KiB,
+ * The most stack that a call takes, by a painted stack (tools/test_stack): wk_check 70 KiB, wk_plan_points 240 KiB, wk_plan_layers 52 KiB,
  * wk_fill 4 KiB.
  *
  * `rt staticlib waikurpeho` proves the library and writes target/staticlib/libwaikurpeho.a, for Linux on x86-64; a program is linked with it by
@@ -38,8 +38,8 @@ extern "C" {
 /* ---- Bounds. More is refused by WK_COUNT, a longer file by WK_SHAPE, a number out of its range by WK_RANGE. */
 
 #define WK_MOST_KINDS 64
-#define WK_MOST_BOXES 256 /* the quantities of all kinds together */
-#define WK_MOST_LINES 256
+#define WK_MOST_BOXES 1024 /* the quantities of all kinds together */
+#define WK_MOST_LINES 1024
 #define WK_MOST_UNPLACED 256
 #define WK_MOST_BYTES 60000 /* of a load file */
 

@@ -5,7 +5,7 @@
 use crate::load_file::{encode, Kind, Line, Sheet, CONTAINER, ID, KIND, LINE, LONGEST, TRAILER};
 use crate::orders::{self, Scale};
 use crate::random::{Random, NAN};
-use crate::refusals::{MOST_BOXES, MOST_KINDS, MOST_LINES, MOST_UNPLACED};
+use crate::refusals::{MOST_BEFORE, MOST_BOXES, MOST_KINDS, MOST_LINES, MOST_UNPLACED};
 use crate::sheets;
 
 /// A file and its refusal (0: accepted).
@@ -156,12 +156,19 @@ fn counts() -> Vec<Known> {
     vec![
         (sized(MOST_KINDS, 0, 0), 0),
         (sized(MOST_KINDS + 1, 0, 0), 2),
+        (sized(0, MOST_BEFORE + 1, 0), 0),
+        (sized(0, MOST_LINES - 1, 0), 0),
         (sized(0, MOST_LINES, 0), 0),
         (sized(0, MOST_LINES + 1, 0), 2),
         (sized(0, 0, MOST_UNPLACED), 0),
         (sized(0, 0, MOST_UNPLACED + 1), 2),
         (sized(MOST_KINDS, MOST_LINES, MOST_UNPLACED), 0),
     ]
+}
+
+/// Files whose counts or totals are next to a bound.
+pub fn bounds() -> Vec<Known> {
+    [counts(), totals()].concat()
 }
 
 /// What makes a float field right.
@@ -307,6 +314,8 @@ fn totals() -> Vec<Known> {
     let half = 1 << 31;
     let most = MOST_BOXES as u32;
     vec![
+        (of(&[MOST_BEFORE as u32 + 1]), 0),
+        (of(&[most - 1]), 0),
         (of(&[most]), 0),
         (of(&[most + 1]), 2),
         (of(&[1, most - 1]), 0),

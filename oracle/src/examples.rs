@@ -118,16 +118,35 @@ pub fn faces() -> Vec<(Sheet, Vec<Call>)> {
     all
 }
 
-/// Calls of `try_place`: the known two, P2, P3, and as many boxes as a state holds, which keep every point.
+/// So many ten-cubes, one behind the other in a case that they fill.
+pub fn row(boxes: u32) -> Sheet {
+    order([10.0 * f64::from(boxes), 10.0, 10.0], &[cube(1, boxes, 10.0)])
+}
+
+/// As many boxes of two kinds as an order may have, in a case that they fill layer by layer.
+pub fn full() -> Sheet {
+    let half = MOST_BOXES as u32 / 2;
+    let layers = MOST_BOXES as f64 / 128.0;
+    order(
+        [160.0, 80.0, 5.0 * layers],
+        &[Kind::new(1, half, [10.0, 10.0, 5.0], FIXED), Kind::new(2, half, [10.0, 10.0, 5.0], UPRIGHT)],
+    )
+}
+
+/// Calls of a placer until it is full, and one more.
+pub fn one_more() -> (Sheet, Vec<Call>) {
+    (order([1e9; 3], &[cube(1, MOST_BOXES as u32, 1.0)]), calls(&[0; MOST_BOXES as usize + 1]))
+}
+
+/// Calls of `try_place`: the known two, P2, P3, and as many boxes as a state holds, which keep every point, with a call that finds it full.
 pub fn point_calls() -> Vec<(Sheet, Vec<Call>)> {
-    let many = order([1e9; 3], &[cube(1, MOST_BOXES as u32, 1.0)]);
     vec![
         (inside(16_777_196.000000002), calls(&[0, 1, 0, 0, 2])),
         (inside(16_777_196.0), calls(&[0, 1, 0, 0, 2])),
         (p2(), calls(&[0, 1])),
         (p3(), calls(&[0, 0])),
         (p6(), vec![]),
-        (many, calls(&[0; MOST_BOXES as usize])),
+        one_more(),
     ]
 }
 

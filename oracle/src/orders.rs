@@ -9,17 +9,36 @@ use crate::refusals;
 pub enum Scale {
     Small,
     Medium,
+    /// Up to the bound of before.
     Full,
+    /// Up to the bound.
+    Most,
 }
 
 impl Scale {
     /// Mostly small ones: they say as much, and more of them go into a sample.
     pub fn draw(r: &mut Random) -> Self {
         match r.below(100) {
+            0 if r.once_in(20) => Scale::Most,
             0 => Scale::Full,
             1..=14 => Scale::Medium,
             _ => Scale::Small,
         }
+    }
+
+    /// The most boxes of an order.
+    pub fn boxes(self) -> i64 {
+        match self {
+            Scale::Small => 10,
+            Scale::Medium => 48,
+            Scale::Full => refusals::MOST_BEFORE as i64,
+            Scale::Most => refusals::MOST_BOXES as i64,
+        }
+    }
+
+    /// Whether an order of this scale is to have as many boxes as the scale allows.
+    fn filled(self) -> bool {
+        matches!(self, Scale::Full | Scale::Most)
     }
 }
 
@@ -53,18 +72,15 @@ pub fn consider(r: &mut Random, total: u64) -> u64 {
 
 /// How many of each kind.
 fn quantities(r: &mut Random, scale: Scale) -> Vec<u32> {
-    let (kinds, most, total) = match scale {
-        Scale::Small => (r.from_to(1, 4), 4, 10),
-        Scale::Medium => (r.from_to(2, 12), 8, 48),
-        Scale::Full => (r.from_to(1, refusals::MOST_KINDS as i64), refusals::MOST_BOXES as i64, refusals::MOST_BOXES as i64),
+    let (kinds, most) = match scale {
+        Scale::Small => (r.from_to(1, 4), 4),
+        Scale::Medium => (r.from_to(2, 12), 8),
+        _ => (r.from_to(1, refusals::MOST_KINDS as i64), scale.boxes()),
     };
-    let mut left = total;
+    let mut left = scale.boxes();
     let mut list = Vec::new();
     for _ in 0..kinds {
-        let share = match scale {
-            Scale::Full => refusals::MOST_BOXES as i64 / kinds,
-            _ => r.from_to(1, most),
-        };
+        let share = if scale.filled() { scale.boxes() / kinds } else { r.from_to(1, most) };
         if left > 0 {
             list.push(share.min(left) as u32);
             left -= share.min(left);
@@ -288,9 +304,11 @@ fn products(r: &mut Random, scale: Scale) -> Sheet {
 /// Boxes that fill the container exactly.
 fn exact(r: &mut Random, scale: Scale) -> Sheet {
     let one = three(r, |r| if r.once_in(2) { tenth(r, 9) } else { r.from_to(1, 9) as f64 });
-    let n = three(r, |r| r.from_to(1, if scale == Scale::Full { 7 } else { 3 }) as f64);
+    // along each axis: a cube of them is about as many as there may be
+    let longest = if scale.filled() { (scale.boxes() as f64).cbrt().ceil() as i64 } else { 3 };
+    let n = three(r, |r| r.from_to(1, longest) as f64);
     let mut s = Sheet::empty([one[0] * n[0], one[1] * n[1], one[2] * n[2]]);
-    let most = if scale == Scale::Full { refusals::MOST_BOXES as f64 } else { 30.0 };
+    let most = if scale.filled() { scale.boxes() as f64 } else { 30.0 };
     let all = (n[0] * n[1] * n[2]).min(most) as u32;
     let rule = r.below(3) as u8;
     s.kinds = vec![Kind::new(0, all, one, rule)];

@@ -4,6 +4,7 @@
 //! no heap, no maps, no text ids.
 
 use crate::load_file::{Kind, Line, Sheet};
+use crate::refusals;
 use crate::terms::{Call, Item, LayerStep, LayerSteps, Placed, Plan, PointStep, PointSteps, Record, BEST};
 
 const E: f64 = 1e-9;
@@ -99,12 +100,13 @@ pub fn point_steps(s: &Sheet, calls: &[Call], inside: Inside) -> PointSteps {
     for c in calls {
         let kind = &s.kinds[c.kind as usize];
         let size = lengths(kind, c.orientation);
-        let at = state.place(size);
+        let refused = refusals::of_place(state.boxes.len());
+        let at = if refused == 0 { state.place(size) } else { None };
         if at.is_some() {
             whole += volume(size);
             mass += kind.mass().unwrap_or(0.0);
         }
-        steps.push(PointStep { at, stored: state.points.len() as u32 });
+        steps.push(PointStep { refused, at, stored: state.points.len() as u32 });
     }
     let mut points = state.points;
     points.sort_by(|p, q| [p[2], p[1], p[0]].partial_cmp(&[q[2], q[1], q[0]]).unwrap());
@@ -282,12 +284,14 @@ pub fn layer_steps(s: &Sheet, calls: &[Call]) -> LayerSteps {
     let mut steps = Vec::new();
     for c in calls {
         let kind = &s.kinds[c.kind as usize];
+        let refused = refusals::of_place(layers.placed.len());
         let took = match c.orientation {
+            _ if refused != 0 => false,
             BEST => layers.place_best(kind, c.instance),
             o => layers.place(kind, c.instance, o),
         };
         let last = layers.placed.last().copied().filter(|_| took);
-        steps.push(LayerStep { placed: last, cursor: layers.cursor });
+        steps.push(LayerStep { refused, placed: last, cursor: layers.cursor });
     }
     LayerSteps {
         steps,

@@ -4,11 +4,19 @@
 use crate::load_file::{decode, Container, Kind, Line, Sheet};
 
 pub const MOST_KINDS: usize = 64;
-pub const MOST_BOXES: u64 = 256;
-pub const MOST_LINES: usize = 256;
+pub const MOST_BOXES: u64 = 1024;
+pub const MOST_LINES: usize = 1024;
 pub const MOST_UNPLACED: usize = 256;
-pub const MOST_ITEMS: usize = 256;
-pub const MOST_INSTANCES: usize = 256;
+pub const MOST_ITEMS: usize = 1024;
+pub const MOST_INSTANCES: usize = 1024;
+
+/// The bound on boxes, lines, items and records was this; samples have the counts around it and around today's.
+pub const MOST_BEFORE: usize = 256;
+
+/// Counts that samples have of whatever is bounded by `most`: one past the bound of before, then one below, at and past `most`.
+pub fn around(most: usize) -> [usize; 4] {
+    [MOST_BEFORE + 1, most - 1, most, most + 1]
+}
 
 pub const LEAST_LENGTH: f64 = 0.000001;
 pub const MOST_LENGTH: f64 = 1_000_000_000.0;
@@ -45,6 +53,15 @@ pub fn is_position(x: f64) -> bool {
 /// Whether the container block is refused. Every field has the same number, so their order doesn't show.
 pub fn container_fault(c: &Container) -> bool {
     !(c.size.iter().all(|&x| is_length(x)) && is_measure(c.margin) && is_measure(c.spacing) && is_limit(c.limit))
+}
+
+/// A place call on a placer that holds so many boxes: 7 where it is full, which the Rust never is.
+pub fn of_place(held: usize) -> u32 {
+    if held as u64 == MOST_BOXES {
+        7
+    } else {
+        0
+    }
 }
 
 /// The number given at a kind, 0 for none: 4, then 3, then 5.

@@ -6,6 +6,7 @@ use crate::extreme_point::{self, ExtremePointSet, PlacedBox};
 use crate::geometry::{Geometry3D, OrientationConstraint};
 use crate::load_file::{Kind, Line, Sheet};
 use crate::packing_utils::{self, InstanceInfo, LayerFill, LayerPlacementResult, PlacementItem};
+use crate::refusals;
 use crate::terms::{Call, Item, LayerStep, LayerSteps, Placed, Plan, PointStep, PointSteps, Record, BEST};
 use std::sync::atomic::AtomicBool;
 use std::sync::Arc;
@@ -196,8 +197,12 @@ pub fn point_steps(s: &Sheet, calls: &[Call]) -> PointSteps {
     let mut set = ExtremePointSet::new(&boundary(s), s.container.margin, s.container.spacing);
     let mut steps = Vec::new();
     for c in calls {
-        let at = set.try_place(&geoms[c.kind as usize], c.instance as usize, c.orientation as usize);
-        steps.push(PointStep { at: at.map(|p| [p.x, p.y, p.z]), stored: set.len() as u32 });
+        let refused = refusals::of_place(set.placed_count());
+        let at = match refused {
+            0 => set.try_place(&geoms[c.kind as usize], c.instance as usize, c.orientation as usize),
+            _ => None,
+        };
+        steps.push(PointStep { refused, at: at.map(|p| [p.x, p.y, p.z]), stored: set.len() as u32 });
     }
     PointSteps {
         steps,
@@ -215,12 +220,14 @@ pub fn layer_steps(s: &Sheet, calls: &[Call]) -> LayerSteps {
     let mut steps = Vec::new();
     for c in calls {
         let geom = &geoms[c.kind as usize];
+        let refused = refusals::of_place(fill.placed());
         let took = match c.orientation {
+            _ if refused != 0 => false,
             BEST => fill.place_best(geom, c.instance as usize),
             index => fill.place(geom, c.instance as usize, index as usize),
         };
         let last = packing_utils::peek::last(&fill).filter(|_| took).map(placed);
-        steps.push(LayerStep { placed: last, cursor: packing_utils::peek::cursor(&fill) });
+        steps.push(LayerStep { refused, placed: last, cursor: packing_utils::peek::cursor(&fill) });
     }
     let (volume, mass) = packing_utils::peek::sums(&fill);
     LayerSteps { steps, boxes: fill.placed() as u32, utilization: fill.utilization(), volume, mass }

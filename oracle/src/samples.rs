@@ -37,6 +37,14 @@ fn after(fixed: Vec<Case>, seed: u64, count: u64, case: impl Fn(&mut Random, u64
     all
 }
 
+/// The measured examples' orders, orders of as many boxes as are next to a bound, and a full case.
+fn known_orders() -> Vec<Sheet> {
+    let mut all = examples::orders();
+    all.extend(refusals::around(refusals::MOST_BOXES as usize)[..3].iter().map(|&boxes| examples::row(boxes as u32)));
+    all.push(examples::full());
+    all
+}
+
 // Points.
 
 fn points_case(s: &Sheet, consider: u64) -> Case {
@@ -46,7 +54,7 @@ fn points_case(s: &Sheet, consider: u64) -> Case {
 
 /// Runs of the extreme-point placer: the measured examples, one order at every number to consider, then drawn orders.
 pub fn points(seed: u64, count: u64) -> Vec<Case> {
-    let mut fixed: Vec<Case> = examples::orders().iter().map(|s| points_case(s, s.total())).collect();
+    let mut fixed: Vec<Case> = known_orders().iter().map(|s| points_case(s, s.total())).collect();
     let counted = examples::counted();
     fixed.extend((0..=counted.total() + 2).map(|n| points_case(&counted, n)));
     after(fixed, seed, count, |r, i| {
@@ -69,7 +77,7 @@ pub fn calls(r: &mut Random, s: &Sheet, scale: Scale) -> Vec<Call> {
     let most = match scale {
         Scale::Small => 12,
         Scale::Medium => 40,
-        Scale::Full => refusals::MOST_BOXES as i64,
+        _ => scale.boxes(),
     };
     let n = if s.kinds.is_empty() { 0 } else { r.from_to(0, most) };
     (0..n).map(|_| call(r, s)).collect()
@@ -180,9 +188,12 @@ fn spot_case(r: &mut Random, s: &Sheet) -> Case {
 
 /// Fills in order, calls with the cursor after each, and spots at any cursor.
 pub fn layers(seed: u64, count: u64) -> Vec<Case> {
-    let mut fixed: Vec<Case> = examples::orders().iter().map(|s| layers_case(s, s.total())).collect();
+    let mut fixed: Vec<Case> = known_orders().iter().map(|s| layers_case(s, s.total())).collect();
     let counted = examples::counted();
     fixed.extend((0..=counted.total() + 2).map(|n| layers_case(&counted, n)));
+    let (s, mut past) = examples::one_more();
+    past.push(Call { orientation: BEST, ..past[0] });
+    fixed.push(layer_state_case(&s, &past));
     after(fixed, seed, count, |r, i| {
         let scale = Scale::draw(r);
         let s = orders::order(r, i, scale);
@@ -219,7 +230,7 @@ pub fn records(r: &mut Random, s: &Sheet) -> Vec<Record> {
             }
         }
     }
-    if !list.is_empty() && list.len() < 200 && r.once_in(4) {
+    if !list.is_empty() && list.len() < refusals::MOST_INSTANCES && r.once_in(4) {
         list.push(list[0]);
     }
     if !list.is_empty() && r.once_in(12) {
@@ -271,6 +282,14 @@ fn seeds_case(s: &Sheet, records: &[Record]) -> Case {
     (tag::SEEDS, body)
 }
 
+fn instances_case(s: &Sheet) -> Case {
+    (tag::INSTANCES, Body::default().sheet(s).records(&rust_side::instances(s)))
+}
+
+fn unplaced_case(s: &Sheet) -> Case {
+    (tag::UNPLACED, Body::default().sheet(s).ids(&rust_side::unplaced_of(s)))
+}
+
 fn fitness_case(placed: u32, total: u32, fill: f64) -> Case {
     let refusal = refusals::of_fitness(placed, total, fill);
     let fitness = if refusal == 0 { rust_side::fitness(placed, total, fill) } else { 0.0 };
@@ -283,18 +302,27 @@ fn item_edges() -> Vec<Case> {
     s.kinds.push(Kind::new(1, 2, [1.0, 2.0, 3.0], 0));
     let records = vec![Record { kind: 0, instance: 0, count: 6 }; refusals::MOST_INSTANCES + 1];
     let items = vec![Item { place: 0, orientation: 1 }; refusals::MOST_ITEMS + 1];
+    let most = refusals::MOST_ITEMS;
     let mut all = vec![
-        items_case(&s, &records[..refusals::MOST_INSTANCES], &items[..refusals::MOST_ITEMS], 300),
-        items_case(&s, &records, &items[..1], 1),
-        items_case(&s, &records[..1], &items, 1),
+        items_case(&s, &records[..refusals::MOST_INSTANCES], &items[..most], most as u64 + 44),
         items_case(&s, &[], &[], 0),
-        seeds_case(&s, &records),
     ];
+    all.extend(refusals::around(refusals::MOST_INSTANCES).map(|n| items_case(&s, &records[..n], &items[..1], 1)));
+    // as many as there may be are considered above
+    let consider = |n: usize| if n < most { n as u64 } else { 1 };
+    all.extend(refusals::around(most).map(|n| items_case(&s, &records[..1], &items[..n], consider(n))));
+    all.extend(refusals::around(refusals::MOST_INSTANCES).map(|n| seeds_case(&s, &records[..n])));
+    for n in [refusals::MOST_BEFORE as u32 + 1, refusals::MOST_BOXES as u32] {
+        all.push(instances_case(&examples::row(n)));
+        all.push(unplaced_case(&sheets::sprinkled(n)));
+    }
     let fills = [0.0, -0.0, 0.5, 1.0, 1e9, 1e9_f64.next_up(), 5e-324, -5e-324, NAN, f64::INFINITY];
     all.extend(fills.into_iter().map(|fill| fitness_case(3, 7, fill)));
     let (most, past) = (refusals::MOST_BOXES as u32, refusals::MOST_BOXES as u32 + 1);
     let counts = [(0, 0), (1, 0), (most, 0), (most, most), (past, 1), (1, past), (past, past), (most, 1), (0, most)];
     all.extend(counts.into_iter().map(|(placed, total)| fitness_case(placed, total, 0.3)));
+    let near = refusals::around(refusals::MOST_BOXES as usize).map(|n| n as u32);
+    all.extend(near.into_iter().flat_map(|n| [fitness_case(n, 7, 0.3), fitness_case(7, n, 0.3)]));
     all.push(fitness_case(past, 1, NAN));
     all
 }
@@ -305,16 +333,13 @@ pub fn items_and_lists(seed: u64, count: u64) -> Vec<Case> {
         let scale = if r.once_in(60) { Scale::Medium } else { Scale::Small };
         let s = orders::order(r, i, scale);
         match i % 10 {
-            0 => (tag::INSTANCES, Body::default().sheet(&s).records(&rust_side::instances(&s))),
+            0 => instances_case(&s),
             1 | 2 => {
                 let s = sheets::sheet(r, i);
                 let records = records(r, &s);
                 seeds_case(&s, &records)
             }
-            3 => {
-                let s = sheets::sheet(r, i);
-                (tag::UNPLACED, Body::default().sheet(&s).ids(&rust_side::unplaced_of(&s)))
-            }
+            3 => unplaced_case(&sheets::sheet(r, i)),
             4 => {
                 let fill = r.pick(&[r.clone().unit(), r.clone().log_uniform(), 0.0]);
                 fitness_case(r.below(refusals::MOST_BOXES + 1) as u32, r.below(refusals::MOST_BOXES + 1) as u32, fill)
@@ -340,10 +365,15 @@ fn check_case(s: &Sheet) -> Case {
     (tag::CHECK, body)
 }
 
-/// Checks: the measured examples, crowds around 1,600 findings and a full one, a clean sheet of as many lines as there may be, then drawn sheets.
+/// Checks: the measured examples, crowds around 1,600 findings, crowds and mostly clean sheets of as many lines as are next to a bound, a clean
+/// one of as many lines as there may be, then drawn sheets.
 pub fn check(seed: u64, count: u64) -> Vec<Case> {
     let mut fixed: Vec<Case> = examples::sheets().iter().map(|(_, s)| check_case(s)).collect();
-    fixed.extend([57, 58, refusals::MOST_LINES as u32].map(|lines| check_case(&sheets::crowd(lines))));
+    fixed.extend([57, 58].map(|lines| check_case(&sheets::crowd(lines))));
+    for &lines in &refusals::around(refusals::MOST_LINES)[..3] {
+        fixed.push(check_case(&sheets::crowd(lines as u32)));
+        fixed.push(check_case(&sheets::sprinkled(lines as u32)));
+    }
     fixed.push(check_case(&timing::planned(refusals::MOST_BOXES as u32)));
     after(fixed, seed, count, |r, i| check_case(&sheets::sheet(r, i)))
 }

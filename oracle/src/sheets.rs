@@ -37,7 +37,11 @@ fn tolerance(s: &Sheet) -> f64 {
 }
 
 fn plan(r: &mut Random, n: u64) -> Sheet {
-    let scale = if r.once_in(60) { Scale::Medium } else { Scale::Small };
+    let scale = match r.below(3000) {
+        0 => Scale::Most,
+        1..=50 => Scale::Medium,
+        _ => Scale::Small,
+    };
     let family = r.next();
     let order = orders::order(r, family, scale);
     let consider = orders::consider(r, order.total());
@@ -319,6 +323,29 @@ fn mass_edge(r: &mut Random, s: &mut Sheet) {
     if near > 0.0 && near <= 1e12 {
         s.container.limit = near;
     }
+}
+
+/// So many lines of unit cubes on a grid, clean but for the last ones: a repeat, an unknown kind, an instance out of range, a wrong
+/// orientation, another bin, a box too close to the first and upon the second, and one outside.
+pub fn sprinkled(lines: u32) -> Sheet {
+    let side = f64::from(lines).cbrt().ceil();
+    let spot = |i: u32| {
+        let n = side as u32;
+        [i % n, i / n % n, i / (n * n)].map(|steps| 2.0 * f64::from(steps))
+    };
+    let mut s = Sheet::empty([2.0 * side; 3]);
+    s.container.spacing = 0.5;
+    s.kinds.push(Kind::new(3, lines, [1.0; 3], 2));
+    s.lines = (0..lines).map(|i| Line { id: 3, instance: i, orientation: 0, bin: 0, at: spot(i) }).collect();
+    let last = s.lines.len() - 1;
+    s.lines[last].instance = 0;
+    s.lines[last - 1].id = 4;
+    s.lines[last - 2].instance = lines;
+    s.lines[last - 3].orientation = 1;
+    s.lines[last - 4].bin = 1;
+    s.lines[last - 5].at = [1.25, 0.0, 0.0];
+    s.lines[last - 6].at[0] = -1.0;
+    s
 }
 
 /// Boxes in one place: more findings than the check program has slots for, from 58 lines on.

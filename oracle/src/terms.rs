@@ -70,6 +70,8 @@ pub struct Item {
 /// After one `try_place`: where the box went, and how many points are stored.
 #[derive(Debug, Clone)]
 pub struct PointStep {
+    /// The refusal, from the rules: 7 where the placer is full, else 0.
+    pub refused: u32,
     pub at: Option<[f64; 3]>,
     pub stored: u32,
 }
@@ -87,6 +89,8 @@ pub struct PointSteps {
 /// After one layer call: the box if it was placed, and the cursor.
 #[derive(Debug, Clone)]
 pub struct LayerStep {
+    /// The refusal, from the rules: 7 where the placer is full, else 0.
+    pub refused: u32,
     pub placed: Option<Placed>,
     pub cursor: [f64; 5],
 }

@@ -8,6 +8,7 @@ use crate::geometry::Geometry3D;
 use crate::load_file::{Kind, Sheet};
 use crate::packing_utils::layer_fill_in_order;
 use crate::random::Random;
+use crate::refusals::{MOST_BEFORE, MOST_BOXES, MOST_KINDS};
 use crate::rust_side;
 use crate::terms::planned_sheet;
 use std::hint::black_box;
@@ -31,21 +32,38 @@ pub struct Input {
     pub sheet: Sheet,
 }
 
-/// Equal ten-cubes into 100×100×100: all fit.
+/// How many kinds so many boxes are of, and how many are of each: four, or more where there are as many kinds as there may be.
+fn shared_out(boxes: u32) -> (u32, u32) {
+    let kinds = (boxes / 4).min(MOST_KINDS as u32);
+    (kinds, boxes / kinds)
+}
+
+/// The side of a case for so many boxes: one that does up to the bound of before, and a larger one past it.
+fn side(boxes: u32, before: f64, past: f64) -> f64 {
+    if boxes as usize <= MOST_BEFORE {
+        before
+    } else {
+        past
+    }
+}
+
+/// Equal ten-cubes into 100×100×100, or 120×120×120 where they are more than the bound of before: all fit.
 pub fn cubes(boxes: u32) -> Sheet {
-    order([100.0; 3], &[Kind::new(1, boxes, [10.0; 3], FIXED)])
+    order([side(boxes, 100.0, 120.0); 3], &[Kind::new(1, boxes, [10.0; 3], FIXED)])
 }
 
 /// Mixed boxes in all orientations, of which many don't fit.
 pub fn mixed(boxes: u32) -> Sheet {
     let mut r = Random::of_case(964_377_074, u64::from(boxes));
+    let (many, each) = shared_out(boxes);
     let kinds: Vec<Kind> =
-        (0..boxes / 4).map(|id| Kind::new(id, 4, [0; 3].map(|_| r.from_to(5, 40) as f64), ANY)).collect();
+        (0..many).map(|id| Kind::new(id, each, [0; 3].map(|_| r.from_to(5, 40) as f64), ANY)).collect();
     // Room for about a quarter of them, however many they are.
     let side = match boxes {
         0..=16 => 40.0,
         17..=64 => 64.0,
-        _ => 100.0,
+        65..=256 => 100.0,
+        _ => 160.0,
     };
     order([side; 3], &kinds)
 }
@@ -53,15 +71,16 @@ pub fn mixed(boxes: u32) -> Sheet {
 /// Boxes of many sizes in all orientations, for the layers.
 pub fn turned(boxes: u32) -> Sheet {
     let mut r = Random::of_case(377_074_964, u64::from(boxes));
+    let (many, each) = shared_out(boxes);
     let kinds: Vec<Kind> =
-        (0..boxes / 4).map(|id| Kind::new(id, 4, [0; 3].map(|_| r.from_to(4, 12) as f64), ANY)).collect();
-    order([100.0; 3], &kinds)
+        (0..many).map(|id| Kind::new(id, each, [0; 3].map(|_| r.from_to(4, 12) as f64), ANY)).collect();
+    order([side(boxes, 100.0, 160.0); 3], &kinds)
 }
 
 /// A plan of the layers for so many boxes at spacing 1, to be checked at it.
 pub fn planned(boxes: u32) -> Sheet {
     let mut order = turned(boxes);
-    order.container.size = [140.0; 3];
+    order.container.size = [side(boxes, 140.0, 220.0); 3];
     order.container.spacing = 1.0;
     let plan = rust_side::plan_layers(&order, u64::MAX);
     planned_sheet(&order, &plan)
@@ -79,10 +98,10 @@ pub fn bare(boxes: u32) -> Sheet {
     turned(boxes)
 }
 
-/// Every input at 16, 64 and 256.
+/// Every input at 16, 64, 256 and 1,024.
 pub fn inputs() -> Vec<Input> {
     let mut all = Vec::new();
-    for boxes in [16, 64, 256] {
+    for boxes in [16, 64, MOST_BEFORE as u32, MOST_BOXES as u32] {
         let input = |name, engine, sheet| Input { name, engine, boxes, sheet };
         all.push(input("equal cubes that all fit", Engine::Points, cubes(boxes)));
         all.push(input("mixed boxes, many don't fit", Engine::Points, mixed(boxes)));

@@ -29,6 +29,15 @@ pub const MOST_LISTED: usize = 400;
 #[derive(Debug, Clone, Default, PartialEq)]
 pub struct Body(pub Vec<u8>);
 
+/// Whether a box was placed, or the number by which the call is refused.
+fn took(refused: u32, placed: bool) -> u32 {
+    if refused == 0 {
+        placed as u32
+    } else {
+        refused
+    }
+}
+
 impl Body {
     pub fn u32(mut self, n: u32) -> Self {
         self.0.extend(n.to_le_bytes());
@@ -97,7 +106,7 @@ impl Body {
         let mut b = self.u32(calls.len() as u32);
         for (c, step) in calls.iter().zip(&done.steps) {
             let at = step.at.unwrap_or([0.0; 3]);
-            b = b.call(c).u32(step.at.is_some() as u32).f64s(&at).u32(step.stored);
+            b = b.call(c).u32(took(step.refused, step.at.is_some())).f64s(&at).u32(step.stored);
         }
         b = b.u32(done.boxes).f64(done.volume).f64(done.mass).u32(done.points.len() as u32);
         done.points.iter().fold(b, |b, p| b.f64s(p))
@@ -108,7 +117,7 @@ impl Body {
         let mut b = self.u32(calls.len() as u32);
         for (c, step) in calls.iter().zip(&done.steps) {
             let (orientation, at) = step.placed.map_or((0, [0.0; 3]), |p| (p.orientation, p.at));
-            b = b.call(c).u32(step.placed.is_some() as u32).u32(orientation).f64s(&at).f64s(&step.cursor);
+            b = b.call(c).u32(took(step.refused, step.placed.is_some())).u32(orientation).f64s(&at).f64s(&step.cursor);
         }
         b.u32(done.boxes).f64(done.utilization).f64(done.volume).f64(done.mass)
     }

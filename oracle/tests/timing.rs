@@ -5,7 +5,7 @@ use oracle::timing::{cubes, mixed, planned, turned};
 
 #[test]
 fn the_inputs_are_what_they_are_called() {
-    for boxes in [16, 64, 256] {
+    for boxes in [16, 64, 256, 1024] {
         let placed = |s| plan_points(&s, u64::MAX).placed.len() as u32;
         assert_eq!(placed(cubes(boxes)), boxes);
         let fit = placed(mixed(boxes));

@@ -1,8 +1,8 @@
 """The bounds of docs/RULES.md, "Numbers that bound it", each once by name."""
 
 MOST_KINDS = 64
-MOST_BOXES = 256
-MOST_LINES = 256
+MOST_BOXES = 1024
+MOST_LINES = 1024
 MOST_UNPLACED = 256
 
 # A length, a measure, a limit and a position: RULES, "Ranges".

@@ -56,8 +56,8 @@ _MEASURE = 'it is from 0 to %s, and not -0' % told(bounds.MOST)
 
 # What refusals 2 and 3 ask of the entry of a text that brings them.
 BOUNDS = {
-    2: {'kind': 'at most %d kinds, and %d boxes of all kinds together' % (bounds.MOST_KINDS, bounds.MOST_BOXES),
-        'line': 'at most %d lines' % bounds.MOST_LINES, 'unplaced': 'at most %d ids' % bounds.MOST_UNPLACED},
+    2: {'kind': 'at most %s kinds, and %s boxes of all kinds together' % (told(bounds.MOST_KINDS), told(bounds.MOST_BOXES)),
+        'line': 'at most %s lines' % told(bounds.MOST_LINES), 'unplaced': 'at most %s ids' % told(bounds.MOST_UNPLACED)},
     3: {'container': _LENGTH, 'margin': _MEASURE, 'spacing': _MEASURE,
         'limit': 'it is above 0, and %s or less' % told(bounds.MOST_LIMIT),
         'kind': '%s, a mass from 0 to %s and not -0' % (_LENGTH, told(bounds.MOST)),

@@ -1,9 +1,14 @@
 """A case layer by layer, from above. Each box tells its kind, line, instance, height and which way up it is: in the box, which is drawn large
 enough for it as far as the page allows, or else beside the layer, with a line to the box."""
-from . import labels, paint, sketch, views
+import math
 
-# How large a layer is drawn at least, beside the other views, and how long its longer side may become on the page.
-SMALLEST, LONGEST = 0.6, 1600.0
+from . import bounds, labels, paint, sketch, views
+
+# What a box needs on the page for its words in four rows, where they are as long as they can be.
+CELL = 104.0
+# How large a layer is drawn at least, beside the other views, and how long its longer side may become on the page: as long as that of a square of as
+# many boxes as a sheet may have.
+SMALLEST, LONGEST = 0.6, CELL * math.ceil(math.sqrt(bounds.MOST_LINES))
 # The words beside a layer: their size, the step from row to row, and the room between them and the view.
 SIZE, ROW, GAP = 10.0, 13.0, 40.0
 

@@ -47,7 +47,7 @@ def _overfull(data):
         return None
     for word, _, most, said in _ROOM:
         if len(rows[word]) > most:
-            return 1 + data.count(b'\n', 0, rows[word][most]), 'at most %d %s, and this text has %s' % (most, said, bounds.told(len(rows[word])))
+            return 1 + data.count(b'\n', 0, rows[word][most]), 'at most %s %s, and this text has %s' % (bounds.told(most), said, bounds.told(len(rows[word])))
     return None
 
 

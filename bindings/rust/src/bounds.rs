@@ -4,9 +4,9 @@
 /// Kinds of an order.
 pub const MOST_KINDS: usize = 64;
 /// Boxes of an order: the quantities of all kinds together.
-pub const MOST_BOXES: usize = 256;
+pub const MOST_BOXES: usize = 1024;
 /// Lines of a sheet.
-pub const MOST_LINES: usize = 256;
+pub const MOST_LINES: usize = 1024;
 /// Unplaced ids of a sheet.
 pub const MOST_UNPLACED: usize = 256;
 /// Bytes of a load file.

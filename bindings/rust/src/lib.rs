@@ -19,7 +19,7 @@
 //! ```
 //!
 //! An order or a sheet goes to the library as a load file, which [`mod@file`] describes byte by byte; [`calls`] has the same calls over bytes. Lengths are
-//! in one unit of your choice, masses too. The calls keep nothing between them, so they may run side by side; one takes at most 64 KiB of stack.
+//! in one unit of your choice, masses too. The calls keep nothing between them, so they may run side by side; one takes at most 240 KiB of stack.
 //!
 //! `rt staticlib waikurpeho` proves the library and writes `target/staticlib/libwaikurpeho.a`, and `WAIKURPEHO_LIB` names its folder where it stands
 //! elsewhere. It is for Linux on x86-64. For another processor or system there is none to be had: the toolchain compiles for Linux on x86-64 alone, on

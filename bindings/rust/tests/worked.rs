@@ -1,4 +1,5 @@
 //! The worked example (docs/RULES.md, Programs) and P5 of the crate `examples`, through the wrapper.
+use waikurpeho::bounds::MOST_BOXES;
 use waikurpeho::{calls, Container, Finding, Kind, Line, Order, Placer, Refusal, Rule, Sheet};
 
 fn worked() -> Sheet {
@@ -48,7 +49,7 @@ fn refused(change: impl Fn(&mut Order)) -> Option<Refusal> {
 fn each_refusal() {
     assert_eq!(refused(|_| ()), None);
     assert_eq!(calls::plan(Placer::Layers, &[], 1), Err(Refusal::Shape));
-    assert_eq!(refused(|order| order.kinds[0].quantity = 257), Some(Refusal::Count));
+    assert_eq!(refused(|order| order.kinds[0].quantity = MOST_BOXES as u32 + 1), Some(Refusal::Count));
     assert_eq!(refused(|order| order.container.margin = f64::NAN), Some(Refusal::Range));
     assert_eq!(refused(|order| order.kinds[0].quantity = 0), Some(Refusal::Record));
     assert_eq!(refused(|order| order.kinds.push(order.kinds[0].clone())), Some(Refusal::RepeatedId));

@@ -11,10 +11,11 @@ use Rattle.lists.specs.Below.{any-same, all-same, sum-same}
 use Rattle.measures.specs.declared.Kind.{Kind}
 use Rattle.sheet.specs.declared.Line.{Line}
 use Rattle.sheet.specs.declared.Sheet.{Sheet}
-use Rattle.sheet.specs.Sheets.{Most, noKind, noLine, kindAt, lineAt, unplacedAt}
+use Rattle.sheet.specs.Sheets.{Most, mostNow, noKind, noLine, kindAt, lineAt, unplacedAt}
 use Rattle.sheet.specs.Alike.{Alike}
-use Rattle.file_read.specs.Reading.{sheetBy, refusalBy}
-use Rattle.file_laws.specs.Counts.{Within, reads-alike}
+use Rattle.file_read.specs.Reading.{sheetBy, refusalBy, sheetOf}
+use Rattle.file_laws.specs.Counts.{Within, sheet-now, reads-alike}
+use Rattle.file_laws.specs.Before.{mostBefore, before-within}
 use Rattle.check_list.specs.View.{massFound, linesFound, restFound, in-two}
 use Rattle.check_list.specs.Alike.{AlikeLines, lines-same}
 use Rattle.check_packing.specs.Lines.{known, kindFor, sameAs, again, repeats, packs, packed, short, boxOf, massWith, massBelow}
@@ -125,3 +126,7 @@ findings-alike s t a =
 -- **with larger counts the findings on an accepted file are the same**
 pub findings-same : (m n : Most) → Within m n → (f : List ℕ) → refusalBy m f ≡ 0 → findings (sheetBy m f) ≡ findings (sheetBy n f)
 findings-same m n w f h = findings-alike (sheetBy m f) (sheetBy n f) (reads-alike m n w f h)
+
+-- **and so are those on a file that was accepted when 256 boxes and lines were the most**
+pub findings-since : (f : List ℕ) → refusalBy mostBefore f ≡ 0 → findings (sheetBy mostBefore f) ≡ findings (sheetOf f)
+findings-since f h = findings-same mostBefore mostNow before-within f h ∙ ap findings (sym (sheet-now f))

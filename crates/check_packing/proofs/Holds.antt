@@ -28,11 +28,16 @@ use Rattle.check_list.specs.Alike.{lines-same}
 use Rattle.check_packing.specs.Lines.{kindOf, known, kindFor, repeats, boxOf, packed, short, massBelow, mass}
 use Rattle.check_packing.specs.Findings.{viewOf, wronglyListed}
 use Rattle.check_packing.specs.Columns.{kindId, kindMany, kindFirst, Ids, Many, Packed, Short, Listed, MarksRead, kindNamed, boxRead, shortIn}
-use Rattle.check_packing.specs.Columns.{countsOf}
+use Rattle.check_packing.specs.Columns.{countsOf, Unmarked}
 use Rattle.check_packing.proofs.Read.{kinds-are, lines-are, unplaced-are, few-kinds, kind-read}
 
 fair-same : (m : Counts) → overCount m ≡ false → fair m ≡ m
 fair-same m h = ap (λ (b : Bool). cond b noCounts m) h
+
+-- an array of so many marks, none of them set
+pub unmarked : (s : Sheet) (m n : ℕ) → 0 < n → kindFirst s m ≤ n → Unmarked s m (replicate n false)
+unmarked s m n h k =
+    record { some = rw length-replicate h; enough = rw length-replicate k; none-set = rw length-replicate refl }
 
 module _ (f : List ℕ) (a : taking.Accepted.Accepted) (t : Taken f a) where
   abbrev s : Sheet

@@ -45,6 +45,15 @@ sum-grows g a zero l = let e : a ≡ 0 = omega arith in rw e (le-refl 0)
 sum-grows g a (suc b) l =
     ⊎-elim (λ e. rw e (le-refl (sumBelow g b + g b))) (λ m. let h = sum-grows g a b (le-of-suc-le-suc m) in omega arith) (eq-or-lt-of-le l)
 
+-- a mark is among them, where there is one
+pub slot-in : (n first copy : ℕ) (counts : Bool) → 0 < n → slotOf n first copy counts < n
+unfolding slotOf
+slot-in n first copy counts h = go (counts && ltb (first + copy) n) refl
+  where
+    go : (b : Bool) → (counts && ltb (first + copy) n) ≡ b → cond b (first + copy) 0 < n
+    go true e = ltb-true (first + copy) n (and-right counts _ e)
+    go false e = h
+
 -- ---- which boxes are marked
 
 -- line j names copy q of kind k
@@ -53,7 +62,7 @@ names s k q j = eqb (lineAt s j .id) (kindAt s k .id) && eqb (lineAt s j .instan
 
 -- before line i
 pub record Marked (s : Sheet) (i : ℕ) (seen : List Bool) (packed : List ℕ) : Type 0 where
-  pub long : length seen ≡ mostBoxes
+  pub long : kindFirst s (s .many .kinds) ≤ length seen
   pub many : length packed ≡ mostKinds
   pub marks : (k : ℕ) → k < s .many .kinds → (q : ℕ) → q < kindMany s k → getD seen (kindFirst s k + q) false ≡ anyBelow (names s k q) i
   pub sums : (k : ℕ) → k < s .many .kinds → getD packed k 0 ≡ sumBelow (packs s k) i
@@ -79,10 +88,9 @@ module _ (s : Sheet) (A : Accepted s) where
       same : k ≡ j → q ≡ r
       same d = let f : kindFirst s k ≡ kindFirst s j = ap (kindFirst s) d in omega arith
 
-  -- and there are marks enough
-  in-marks : (k q : ℕ) → k < s .many .kinds → q < kindMany s k → kindFirst s k + q < mostBoxes
-  unfolding kindFirst
-  in-marks k q l h = let b = before k (s .many .kinds) q l h in let t = A .boxes-few in omega arith
+  -- and marks for all boxes are enough
+  in-marks : (k q n : ℕ) → k < s .many .kinds → q < kindMany s k → kindFirst s (s .many .kinds) ≤ n → kindFirst s k + q < n
+  in-marks k q n l h t = let b = before k (s .many .kinds) q l h in omega arith
 
   -- the boxes before a kind and its own are not more than there may be
   pub first-few : (k : ℕ) → k < s .many .kinds → kindFirst s k + kindAt s k .quantity ≤ mostBoxes
@@ -90,13 +98,13 @@ module _ (s : Sheet) (A : Accepted s) where
   first-few k l = let g = sum-grows (quantityOf (s .kinds)) (suc k) (s .many .kinds) l in let t = A .boxes-few in omega arith
 
   -- before the first line
-  pub marked-start : Marked s 0 (replicate mostBoxes false) (replicate mostKinds 0)
+  pub marked-start : (n : ℕ) → kindFirst s (s .many .kinds) ≤ n → Marked s 0 (replicate n false) (replicate mostKinds 0)
   unfolding anyBelow sumBelow
-  marked-start =
+  marked-start n t =
       record {
-        long = length-replicate mostBoxes false;
+        long = rw (length-replicate n false) t;
         many = length-replicate {A = ℕ} mostKinds 0;
-        marks = λ k l q h. getD-replicate mostBoxes (kindFirst s k + q) false false (in-marks k q l h);
+        marks = λ k l q h. getD-replicate n (kindFirst s k + q) false false (in-marks k q n l h t);
         sums = λ k l. getD-replicate {A = ℕ} mostKinds k 0 0 (let f = A .few-of .kinds in omega arith);
         few = λ k l. let e = getD-replicate {A = ℕ} mostKinds k 0 0 l in omega arith;
       }
@@ -170,7 +178,7 @@ module _ (s : Sheet) (A : Accepted s) where
         let lc = counts-copy e in
         let f = A .few-of .kinds in
         record {
-          long = length-set seen at _ ∙ M .long;
+          long = rw (length-set seen at _) (M .long);
           many = length-set packed k₀ _ ∙ M .many;
           marks =
               λ k l q h.
@@ -187,7 +195,7 @@ module _ (s : Sheet) (A : Accepted s) where
             let y : copy ≡ q = eqb-true copy q (and-right (eqb w k) _ g) in
             let z : kindFirst s k + q ≡ at = sym (ea ∙ ap (λ (v : ℕ). kindFirst s v + copy) x ∙ ap (λ (v : ℕ). kindFirst s k + v) y) in
             rw z
-            (getD-set-same seen at (getD seen at false || true) false (rw (M .long) (rw ea (in-marks w copy (counts-kind e) (counts-copy e))))
+            (getD-set-same seen at (getD seen at false || true) false (rw ea (in-marks w copy (length seen) (counts-kind e) (counts-copy e) (M .long)))
             ∙ or-some (getD seen at false) true refl ∙ sym (or-some (anyBelow (names s k q) i) true refl))
         mark k l q h false g =
             getD-set-other seen at (kindFirst s k + q) _ false
@@ -233,7 +241,7 @@ module _ (s : Sheet) (A : Accepted s) where
     unfolding anyBelow sumBelow packs
     marked-none e at k₀ =
         record {
-          long = length-set seen at _ ∙ M .long;
+          long = rw (length-set seen at _) (M .long);
           many = length-set packed k₀ _ ∙ M .many;
           marks =
               λ k l q h.
@@ -252,7 +260,7 @@ module _ (s : Sheet) (A : Accepted s) where
         go false e = refl
 
     -- one turn: c is whether the line counts, at its mark, w₁ its place in the columns
-    pub turn : (c : Bool) → c ≡ here → (first at w₁ one : ℕ) → (here ≡ true → first ≡ kindFirst s w) → (copy₁ : ℕ) → copy₁ ≡ copy → at ≡ slotOf first copy₁ c
+    pub turn : (c : Bool) → c ≡ here → (first at w₁ one : ℕ) → (here ≡ true → first ≡ kindFirst s w) → (copy₁ : ℕ) → copy₁ ≡ copy → at ≡ slotOf (length seen) first copy₁ c
         → w₁ ≡ placeWithin w
         → one ≡ when (c && not (getD seen at false)) 1
         → ((c && getD seen at false) ≡ repeats s i)
@@ -260,8 +268,8 @@ module _ (s : Sheet) (A : Accepted s) where
     unfolding slotOf placeWithin
     turn c ec first at w₁ one ef copy₁ ey ea ew eo = rw ec (repeats-is at (λ e. own e), go here refl)
       where
-        slot-is : here ≡ true → slotOf first copy₁ c ≡ kindFirst s w + copy
-        slot-is e = rw (ec ∙ e, ef e, ey) (rw (lt-ltb (kindFirst s w + copy) mostBoxes (in-marks w copy (counts-kind e) (counts-copy e))))
+        slot-is : here ≡ true → slotOf (length seen) first copy₁ c ≡ kindFirst s w + copy
+        slot-is e = rw (ec ∙ e, ef e, ey) (rw (lt-ltb (kindFirst s w + copy) (length seen) (in-marks w copy (length seen) (counts-kind e) (counts-copy e) (M .long))))
 
         own : here ≡ true → at ≡ kindFirst s w + copy
         own e = ea ∙ slot-is e

@@ -8,7 +8,7 @@ use borrow.Author.Tests.{ltb-true, lt-ltb}
 use lib.Dec.{ltb}
 use lib.ListN.{getD}
 use lib.Ieee.{Float}
-use Rattle.domain.specs.Bounds.{mostKinds, mostLines, mostUnplaced, placeWithin}
+use Rattle.domain.specs.Bounds.{mostKinds, mostBoxes, mostLines, mostUnplaced, placeWithin}
 use Rattle.domain.specs.Refusals.{when}
 use Rattle.domain.specs.Laws.{or-else-second}
 use Rattle.measures.specs.declared.Kind.{Kind}
@@ -24,7 +24,7 @@ use Rattle.file_read.specs.Records.{kindIn, bounds, many-is, kind-is}
 use Rattle.file_accept.specs.Accept.{Taken}
 use Rattle.check_pair.specs.declared.Extent.{Extent}
 use Rattle.check_packing.specs.Lines.{kindOf, known, kindFor, inRange, counted, boxOf, massWith, massBelow}
-use Rattle.check_packing.specs.Columns.{kindMany, placeBelow, Ids, kindNamed, boxRead}
+use Rattle.check_packing.specs.Columns.{kindMany, kindFirst, placeBelow, Ids, kindNamed, boxRead}
 use Rattle.check_packing.proofs.Places.{place-kind}
 use Rattle.file_accept.specs.declared as taking
 
@@ -43,6 +43,10 @@ module _ (f : List ℕ) (a : taking.Accepted.Accepted) (t : Taken f a) where
 
   pub few-kinds : a .kinds ≤ mostKinds
   few-kinds = rw (t .kinds-are) (bounds f (t .can-read) .kinds)
+
+  pub few-boxes : kindFirst (sheetOf f) (a .kinds) ≤ mostBoxes
+  unfolding kindFirst
+  few-boxes = rw kinds-are (sound .boxes-few)
 
   pub few-lines : a .lines ≤ mostLines
   few-lines = rw (t .lines-are) (bounds f (t .can-read) .lines)

@@ -1,12 +1,12 @@
 -- What the columns hold that are filled from an accepted file: by kind, by line and by unplaced id.
-use Prim.Native.Nat.{ℕ, zero, suc, _+_, _*_, _/_, _<_}
+use Prim.Native.Nat.{ℕ, zero, suc, _+_, _*_, _/_, _<_, _≤_}
 use mathlib.Core.Path.{_≡_}
 use mathlib.Core.Bool.{Bool, false, cond, _&&_}
 use mathlib.Core.List.{List}
 use lib.Dec.{eqb, ltb}
-use lib.ListN.{length, getD}
+use lib.ListN.{length, getD, replicate}
 use Rattle.lists.specs.Below.{anyBelow, sumBelow, isAt}
-use Rattle.domain.specs.Bounds.{mostKinds, mostBoxes}
+use Rattle.domain.specs.Bounds.{mostKinds}
 use Rattle.sheet.specs.declared.Sheet.{Sheet}
 use Rattle.sheet.specs.declared.Counts.{Counts}
 use Rattle.sheet.specs.Sheets.{kindAt, lineAt, quantityOf}
@@ -52,9 +52,15 @@ boxRead f i = boxOf (lineAt (sheetOf f) i) (kindIn f (kindNamed (sheetOf f) i))
 
 -- ---- marks: one for each box of the order
 
--- the mark of a copy, where the boxes of its kind begin there; the first for a line that does not count
-unfoldable pub slotOf : ℕ → ℕ → Bool → ℕ
-slotOf first copy counts = cond (counts && ltb (first + copy) mostBoxes) (first + copy) 0
+-- the mark of a copy, of so many, where the boxes of its kind begin there; the first for a line that does not count
+unfoldable pub slotOf : ℕ → ℕ → ℕ → Bool → ℕ
+slotOf marks first copy counts = cond (counts && ltb (first + copy) marks) (first + copy) 0
+
+-- marks that are enough for the boxes of m kinds, one at least, none of them set
+pub record Unmarked (s : Sheet) (m : ℕ) (seen : List Bool) : Type 0 where
+  pub some : 0 < length seen
+  pub enough : kindFirst s m ≤ length seen
+  pub none-set : seen ≡ replicate (length seen) false
 
 -- what the columns hold that the marks are made by
 pub record MarksRead (f : List ℕ) (a : Accepted) (which many firsts : List ℕ) : Type 0 where
@@ -82,7 +88,11 @@ pub record Listed (s : Sheet) (n : ℕ) (listed : List Bool) : Type 0 where
   pub long : length listed ≡ mostKinds
   pub marks : (k : ℕ) → k < s .many .kinds → getD listed k false ≡ anyBelow (isAt (s .unplaced) (kindAt s k .id)) n
 
--- ---- what stands when the lines are done
+-- ---- what stands before the lines, and when they are done
+
+-- the columns of an accepted file's kinds, none of their boxes packed
+abbrev pub Ready : List ℕ → Accepted → List ℕ → List ℕ → List ℕ → Type 0
+Ready f a ids many packed = Taken f a × (Ids (sheetOf f) (a .kinds) ids × (Many (sheetOf f) (a .kinds) many × (packed ≡ replicate mostKinds 0)))
 
 abbrev pub countsOf : Accepted → Counts
 countsOf a = record { kinds = a .kinds; lines = a .lines; unplaced = a .unplaced }

@@ -2,7 +2,7 @@
 ghost use mathlib.Core.Path.{_≡_};
 ghost use Prim.Native.Nat.{ℕ, _*_, _≤_, _<_};
 ghost use lib.ListN.{length, replicate};
-ghost use Rattle.domain.specs.Bounds.{mostKinds, mostBoxes};
+ghost use Rattle.domain.specs.Bounds.{mostKinds};
 ghost use Rattle.domain.specs.Refusals.{when};
 ghost use Rattle.lists.specs.Table.{filled};
 ghost use Rattle.file_read.specs.Reading.{sheetOf};
@@ -10,30 +10,34 @@ ghost use Rattle.file_accept.specs.Accept.{Taken};
 ghost use Rattle.check_packing.specs.Lines.{massOf, massWith, massBelow, repeats};
 ghost use Rattle.check_words.specs.Corners.{boxesFilled};
 ghost use Rattle.check_packing.specs.Columns.{kindId, kindMany, kindFirst, placeBelow, Ids, Many, Packed, kindNamed, boxRead};
-ghost use Rattle.check_packing.specs.Columns.{shortIn, slotOf, MarksRead};
+ghost use Rattle.check_packing.specs.Columns.{shortIn, slotOf, MarksRead, Unmarked};
 use file_accept::Accepted;
 use file_read::records;
 use measures::Kind;
 
-// The ids and quantities of the kinds.
+// The ids and quantities of the kinds, and how many boxes there are in all.
 pub(crate) fn kind_columns(
     f: &[u8],
     a: Accepted,
     ids: &mut [u32; domain::MOST_KINDS],
     many: &mut [u32; domain::MOST_KINDS],
-)
+) -> u32
     requires { ⌜ Taken (now f) a ⌝ }
-    ensures { λ _. ⌜ (now (ids .exit) ≡ filled (now (ids .entry)) (kindId (sheetOf (now (f .entry)))) (a .kinds))
+    ensures { λ r. ⌜ (r ≡ kindFirst (sheetOf (now (f .entry))) (a .kinds))
+        × (now (ids .exit) ≡ filled (now (ids .entry)) (kindId (sheetOf (now (f .entry)))) (a .kinds))
         × (now (many .exit) ≡ filled (now (many .entry)) (kindMany (sheetOf (now (f .entry)))) (a .kinds)) ⌝ }
 {
     let m = a.kinds;
+    let mut all = 0;
     let mut k = 0;
     while k < m {
         let kind = records::kind_in(f, k);
         ids[k] = kind.id;
         many[k] = kind.quantity;
+        all += kind.quantity;
         k += 1;
     }
+    all
 }
 
 // How many boxes there are before each kind.
@@ -121,12 +125,13 @@ pub(crate) fn line_columns(
     mass
 }
 
-// The mark of a copy: a mark for each box of the order, those of a kind one after the other. A line that does not count has the first.
-fn slot(first: u32, copy: u32, counts: bool) -> usize
-    ensures { λ r. ⌜ (r ≡ slotOf first copy counts) × (r < mostBoxes) ⌝ }
+// The mark of a copy, of so many: a mark for each box of the order, those of a kind one after the other. A line that does not count has the
+// first.
+fn slot(first: u32, copy: u32, counts: bool, marks: usize) -> usize
+    ensures { λ r. ⌜ r ≡ slotOf marks first copy counts ⌝ }
 {
     let at = first as u64 + copy as u64;
-    if counts & (at < domain::MOST_BOXES as u64) {
+    if counts & (at < marks as u64) {
         return at as usize;
     }
     0
@@ -141,7 +146,8 @@ fn one_if(on: bool) -> u32
     0
 }
 
-// Which lines repeat a copy, and how many copies of each kind are packed.
+// Which lines repeat a copy, and how many copies of each kind are packed. The marks are lent, a mark for each box and one at least, none of them
+// set.
 pub(crate) fn mark_columns(
     f: &[u8],
     a: Accepted,
@@ -150,22 +156,22 @@ pub(crate) fn mark_columns(
     firsts: &[u32; domain::MOST_KINDS],
     again: &mut [bool],
     packed: &mut [u32; domain::MOST_KINDS],
+    seen: &mut [bool],
 )
     requires { ⌜ MarksRead (now f) a (now which) (now many) (now firsts) × ((now packed ≡ replicate mostKinds 0)
-        × ((a .lines ≤ length (now which)) × (a .lines ≤ length (now again)))) ⌝ }
+        × ((a .lines ≤ length (now which)) × ((a .lines ≤ length (now again)) × Unmarked (sheetOf (now f)) (a .kinds) (now seen)))) ⌝ }
     ensures { λ _. ⌜ (now (again .exit) ≡ filled (now (again .entry)) (repeats (sheetOf (now (f .entry)))) (a .lines))
         × Packed (sheetOf (now (f .entry))) (a .kinds) (now (packed .exit)) ⌝ }
 {
     let m = a.kinds;
     let n = a.lines;
     let start = a.start;
-    let mut seen = [false; domain::MOST_BOXES];
     let mut i = 0;
     while i < n {
         let l = records::line_in(f, start, i);
         let w = domain::place_within(which[i]);
         let counts = (which[i] < m) & (l.instance < many[w]);
-        let at = slot(firsts[w], l.instance, counts);
+        let at = slot(firsts[w], l.instance, counts, seen.len());
         let was = seen[at];
         let one = one_if(counts & !was);
         again[i] = counts & was;

@@ -1,16 +1,15 @@
 // The checker: the findings on a load file, on its bytes. RULES: Findings: words
 ghost use mathlib.Core.Path.{_≡_};
 ghost use Prim.Native.Nat.{_+_, _*_, _≤_};
-ghost use lib.ListN.{replicate};
 ghost use Rattle.check_words.specs.Wrote.{roomFor};
-ghost use Rattle.domain.specs.Bounds.{mostKinds, mostLines, mostUnplaced, fewLines};
+ghost use Rattle.domain.specs.Bounds.{mostKinds, mostLines, mostUnplaced, fewLines, someLines, someBoxes};
 ghost use Rattle.file_read.specs.Reading.{sheetOf};
 ghost use Rattle.file_accept.specs.Accept.{Taken};
 ghost use Rattle.check_list.specs.View.{restFound};
 ghost use Rattle.check_list.specs.Held.{Ran, Wide, mostLineWords};
 ghost use Rattle.check_packing.specs.Lines.{mass};
 ghost use Rattle.check_packing.specs.Findings.{viewOf, findings};
-ghost use Rattle.check_packing.specs.Columns.{Ids, Many, Packed, LinesPut, countsOf};
+ghost use Rattle.check_packing.specs.Columns.{Ids, Many, Packed, LinesPut, countsOf, kindFirst, Ready, Unmarked};
 ghost use Rattle.check_packing.specs.Check.{CheckedFile};
 use check_words::CORNERS;
 use file_accept::Accepted;
@@ -51,7 +50,7 @@ fn counts_of(a: Accepted) -> Counts
 }
 
 // The findings of the lines and of their pairs, from the first cell on; and how many copies of each kind are packed. The columns of the
-// lines are lent.
+// lines are lent, and a mark for each box.
 fn put_columns(
     f: &[u8],
     a: Accepted,
@@ -62,52 +61,22 @@ fn put_columns(
     which: &mut [usize],
     again: &mut [bool],
     boxes: &mut [f64],
+    seen: &mut [bool],
 ) -> Lined
-    requires { ⌜ (Taken (now f) a × (Ids (sheetOf (now f)) (a .kinds) (now ids) × (Many (sheetOf (now f)) (a .kinds) (now many)
-        × (now packed ≡ replicate mostKinds 0))))
-        × Wide (a .lines) (now which) (now again) (now boxes) ⌝ }
+    requires { ⌜ Ready (now f) a (now ids) (now many) (now packed) × Wide (a .lines) (now which) (now again) (now boxes)
+        × Unmarked (sheetOf (now f)) (a .kinds) (now seen) ⌝ }
     ensures { λ r. ⌜ LinesPut (sheetOf (now (f .entry))) (now (out .entry)) (now (packed .exit)) r (now (out .exit)) ⌝ }
 {
     let mut firsts = [0u32; domain::MOST_KINDS];
     columns::first_column(f, a, many, &mut firsts);
     let mass = columns::line_columns(f, a, ids, which, boxes);
-    columns::mark_columns(f, a, which, many, &firsts, again, packed);
+    columns::mark_columns(f, a, which, many, &firsts, again, packed, seen);
     let c = records::container_in(f);
     let words = check_list::line_findings(out, f, a.start, counts_of(a), c, which, again, boxes);
     Lined { words, mass }
 }
 
-// The same with columns for few lines.
-fn put_few(
-    f: &[u8],
-    a: Accepted,
-    ids: &[u32; domain::MOST_KINDS],
-    many: &[u32; domain::MOST_KINDS],
-    packed: &mut [u32; domain::MOST_KINDS],
-    out: &mut [u64],
-) -> Lined
-    requires { ⌜ (Taken (now f) a × (Ids (sheetOf (now f)) (a .kinds) (now ids) × (Many (sheetOf (now f)) (a .kinds) (now many)
-        × (now packed ≡ replicate mostKinds 0))))
-        × (a .lines ≤ fewLines) ⌝ }
-    ensures { λ r. ⌜ LinesPut (sheetOf (now (f .entry))) (now (out .entry)) (now (packed .exit)) r (now (out .exit)) ⌝ }
-{
-    let mut which = [0usize; domain::FEW_LINES];
-    let mut again = [false; domain::FEW_LINES];
-    let mut boxes = [0.0; CORNERS * domain::FEW_LINES];
-    put_columns(
-        f,
-        a,
-        ids,
-        many,
-        packed,
-        out,
-        &mut which,
-        &mut again,
-        &mut boxes,
-    )
-}
-
-// The same with columns for as many lines as there can be.
+// The same with columns for as many lines and boxes as there can be.
 fn put_many(
     f: &[u8],
     a: Accepted,
@@ -116,13 +85,13 @@ fn put_many(
     packed: &mut [u32; domain::MOST_KINDS],
     out: &mut [u64],
 ) -> Lined
-    requires { ⌜ Taken (now f) a × (Ids (sheetOf (now f)) (a .kinds) (now ids) × (Many (sheetOf (now f)) (a .kinds) (now many)
-        × (now packed ≡ replicate mostKinds 0))) ⌝ }
+    requires { ⌜ Ready (now f) a (now ids) (now many) (now packed) ⌝ }
     ensures { λ r. ⌜ LinesPut (sheetOf (now (f .entry))) (now (out .entry)) (now (packed .exit)) r (now (out .exit)) ⌝ }
 {
     let mut which = [0usize; domain::MOST_LINES];
     let mut again = [false; domain::MOST_LINES];
     let mut boxes = [0.0; CORNERS * domain::MOST_LINES];
+    let mut seen = [false; domain::MOST_BOXES];
     put_columns(
         f,
         a,
@@ -133,6 +102,92 @@ fn put_many(
         &mut which,
         &mut again,
         &mut boxes,
+        &mut seen,
+    )
+}
+
+// The same with columns for some of them.
+fn put_some(
+    f: &[u8],
+    a: Accepted,
+    ids: &[u32; domain::MOST_KINDS],
+    many: &[u32; domain::MOST_KINDS],
+    packed: &mut [u32; domain::MOST_KINDS],
+    out: &mut [u64],
+) -> Lined
+    requires { ⌜ Ready (now f) a (now ids) (now many) (now packed)
+        × (a .lines ≤ someLines) × (kindFirst (sheetOf (now f)) (a .kinds) ≤ someBoxes) ⌝ }
+    ensures { λ r. ⌜ LinesPut (sheetOf (now (f .entry))) (now (out .entry)) (now (packed .exit)) r (now (out .exit)) ⌝ }
+{
+    let mut which = [0usize; domain::SOME_LINES];
+    let mut again = [false; domain::SOME_LINES];
+    let mut boxes = [0.0; CORNERS * domain::SOME_LINES];
+    let mut seen = [false; domain::SOME_BOXES];
+    put_columns(
+        f,
+        a,
+        ids,
+        many,
+        packed,
+        out,
+        &mut which,
+        &mut again,
+        &mut boxes,
+        &mut seen,
+    )
+}
+
+// The same of a sheet with more lines or boxes than few.
+fn put_more(
+    f: &[u8],
+    a: Accepted,
+    ids: &[u32; domain::MOST_KINDS],
+    many: &[u32; domain::MOST_KINDS],
+    packed: &mut [u32; domain::MOST_KINDS],
+    out: &mut [u64],
+    all: u32,
+) -> Lined
+    requires { ⌜ Ready (now f) a (now ids) (now many) (now packed) × (all ≡ kindFirst (sheetOf (now f)) (a .kinds)) ⌝ }
+    ensures { λ r. ⌜ LinesPut (sheetOf (now (f .entry))) (now (out .entry)) (now (packed .exit)) r (now (out .exit)) ⌝ }
+{
+    if (domain::SOME_LINES < a.lines) | (domain::SOME_BOXES < all as usize) {
+        return put_many(f, a, ids, many, packed, out);
+    }
+    put_some(f, a, ids, many, packed, out)
+}
+
+// The same of a sheet of few lines, with columns for few of both where these do.
+fn put_few(
+    f: &[u8],
+    a: Accepted,
+    ids: &[u32; domain::MOST_KINDS],
+    many: &[u32; domain::MOST_KINDS],
+    packed: &mut [u32; domain::MOST_KINDS],
+    out: &mut [u64],
+    all: u32,
+) -> Lined
+    requires { ⌜ Ready (now f) a (now ids) (now many) (now packed) × (a .lines ≤ fewLines)
+        × (all ≡ kindFirst (sheetOf (now f)) (a .kinds)) ⌝ }
+    ensures { λ r. ⌜ LinesPut (sheetOf (now (f .entry))) (now (out .entry)) (now (packed .exit)) r (now (out .exit)) ⌝ }
+{
+    if domain::FEW_BOXES < all as usize {
+        return put_more(f, a, ids, many, packed, out, all);
+    }
+    let mut which = [0usize; domain::FEW_LINES];
+    let mut again = [false; domain::FEW_LINES];
+    let mut boxes = [0.0; CORNERS * domain::FEW_LINES];
+    let mut seen = [false; domain::FEW_BOXES];
+    put_columns(
+        f,
+        a,
+        ids,
+        many,
+        packed,
+        out,
+        &mut which,
+        &mut again,
+        &mut boxes,
+        &mut seen,
     )
 }
 
@@ -144,9 +199,9 @@ fn put_lines(
     many: &[u32; domain::MOST_KINDS],
     packed: &mut [u32; domain::MOST_KINDS],
     out: &mut [u64],
+    all: u32,
 ) -> Lined
-    requires { ⌜ Taken (now f) a × (Ids (sheetOf (now f)) (a .kinds) (now ids) × (Many (sheetOf (now f)) (a .kinds) (now many)
-        × (now packed ≡ replicate mostKinds 0))) ⌝ }
+    requires { ⌜ Ready (now f) a (now ids) (now many) (now packed) × (all ≡ kindFirst (sheetOf (now f)) (a .kinds)) ⌝ }
     ensures { λ r. ⌜ LinesPut (sheetOf (now (f .entry))) (now (out .entry)) (now (packed .exit)) r (now (out .exit)) ⌝ }
 {
     if a.lines == 0 {
@@ -156,9 +211,9 @@ fn put_lines(
         };
     }
     if a.lines <= domain::FEW_LINES {
-        return put_few(f, a, ids, many, packed, out);
+        return put_few(f, a, ids, many, packed, out, all);
     }
-    put_many(f, a, ids, many, packed, out)
+    put_more(f, a, ids, many, packed, out, all)
 }
 
 // The findings on the mass and the unplaced list, behind those of the lines; and where they end.
@@ -192,8 +247,8 @@ fn put_all(f: &[u8], a: Accepted, out: &mut [u64]) -> usize
     let mut ids = [0u32; domain::MOST_KINDS];
     let mut many = [0u32; domain::MOST_KINDS];
     let mut packed = [0u32; domain::MOST_KINDS];
-    columns::kind_columns(f, a, &mut ids, &mut many);
-    let l = put_lines(f, a, &ids, &many, &mut packed, out);
+    let all = columns::kind_columns(f, a, &mut ids, &mut many);
+    let l = put_lines(f, a, &ids, &many, &mut packed, out, all);
     put_rest(f, a, l, &ids, &many, &packed, out)
 }
 

@@ -8,26 +8,32 @@ abbrev pub mostKinds : ℕ
 mostKinds = 64
 
 abbrev pub mostBoxes : ℕ
-mostBoxes = 256
+mostBoxes = 1024
 
 abbrev pub mostLines : ℕ
-mostLines = 256
+mostLines = 1024
 
 abbrev pub mostUnplaced : ℕ
 mostUnplaced = 256
 
 abbrev pub mostItems : ℕ
-mostItems = 256
+mostItems = 1024
 
 abbrev pub mostInstances : ℕ
-mostInstances = 256
+mostInstances = 1024
 
--- most orders and sheets are small: a store for so many boxes or lines is made where it does, which no answer tells
+-- most orders and sheets are small: a store for few boxes or lines, or for some, is made where it does, which no answer tells
 abbrev pub fewBoxes : ℕ
 fewBoxes = 64
 
 abbrev pub fewLines : ℕ
 fewLines = 64
+
+abbrev pub someBoxes : ℕ
+someBoxes = 256
+
+abbrev pub someLines : ℕ
+someLines = 256
 
 -- a place that a store of kinds has: the last one for a number past them
 unfoldable pub placeWithin : ℕ → ℕ

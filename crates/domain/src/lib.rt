@@ -8,20 +8,24 @@ ghost use Rattle.domain.specs.Refusals.{when, orElse};
 // Counts.
 pub const MOST_KINDS: usize = 64;
 
-pub const MOST_BOXES: usize = 256;
+pub const MOST_BOXES: usize = 1024;
 
-pub const MOST_LINES: usize = 256;
+pub const MOST_LINES: usize = 1024;
 
 pub const MOST_UNPLACED: usize = 256;
 
-pub const MOST_ITEMS: usize = 256;
+pub const MOST_ITEMS: usize = 1024;
 
-pub const MOST_INSTANCES: usize = 256;
+pub const MOST_INSTANCES: usize = 1024;
 
-// Most orders and sheets are small: a store for so many boxes or lines is made where it does. No answer tells which was.
+// Most orders and sheets are small: a store for few boxes or lines, or for some, is made where it does. No answer tells which was.
 pub const FEW_BOXES: usize = 64;
 
 pub const FEW_LINES: usize = 64;
+
+pub const SOME_BOXES: usize = 256;
+
+pub const SOME_LINES: usize = 256;
 
 // Ranges.
 pub const LEAST_LENGTH: f64 = 0.000001;

@@ -11,3 +11,4 @@ pub mod WriteRead
 pub mod RoundTrip
 pub mod Planned
 pub mod Counts
+pub mod Before

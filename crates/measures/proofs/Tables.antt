@@ -1,47 +1,36 @@
--- The code's tables say what the definitions say: each rule's share by its line, and axes below 3.
+-- The code says of rows and axes what the definitions say: each rule's share, and axes below 3.
 use mathlib.Core.Path.{_≡_, refl}
 use mathlib.Core.List.{List, [], _∷_}
-use Prim.Native.Nat.{ℕ, zero, suc, _<_, _≤_}
+use Prim.Native.Nat.{ℕ, zero, suc, _*_, _<_, _≤_}
 use native.Mathlib.Nat.{le-of-suc-le-suc, not-suc-le-zero}
 use native.Mathlib.Omega.{arith}
 use lib.ListN.{length, getD}
-use Rattle.measures.specs.Orders.{orders, shareOf, rowOf}
+use Rattle.measures.specs.Orders.{orders, shareOf}
 
-pub row-past : (r : ℕ) → 2 < r → 2 ≡ rowOf r
-row-past zero h = omega arith
-row-past (suc zero) h = omega arith
-row-past (suc (suc r)) h = refl
+-- past the first two rules a box is fixed
+pub share-past : (r : ℕ) → (r ≡ 0 → ⊥) → (r ≡ 1 → ⊥) → shareOf r ≡ 0 ∷ []
+share-past zero h k = absurd (h refl)
+share-past (suc zero) h k = absurd (k refl)
+share-past (suc (suc r)) h k = refl
 
-pub row-small : (r : ℕ) → r ≤ 2 → r ≡ rowOf r
-row-small zero h = refl
-row-small (suc zero) h = refl
-row-small (suc (suc r)) h = omega arith
+-- the first rule has row i at place i
+pub share-any : (i : ℕ) → i < 6 → getD (shareOf 0) i 0 ≡ i
+share-any zero h = refl
+share-any (suc zero) h = refl
+share-any (suc (suc zero)) h = refl
+share-any (suc (suc (suc zero))) h = refl
+share-any (suc (suc (suc (suc zero)))) h = refl
+share-any (suc (suc (suc (suc (suc zero))))) h = refl
+share-any (suc (suc (suc (suc (suc (suc i)))))) h = omega arith
 
-pub row-bound : (r : ℕ) → rowOf r < 3
-row-bound zero = omega arith
-row-bound (suc zero) = omega arith
-row-bound (suc (suc r)) = omega arith
-
-abbrev pub counts : List ℕ
-counts = 6 ∷ 2 ∷ 1 ∷ []
-
--- the entry of a rule's line is how many orders it allows
-pub counted : (r : ℕ) → getD counts (rowOf r) 0 ≡ length (shareOf r)
-counted zero = refl
-counted (suc zero) = refl
-counted (suc (suc r)) = refl
-
-abbrev pub shares : List (List ℕ)
-shares = (0 ∷ 1 ∷ 2 ∷ 3 ∷ 4 ∷ 5 ∷ []) ∷ (0 ∷ 2 ∷ 0 ∷ 0 ∷ 0 ∷ 0 ∷ []) ∷ (0 ∷ 0 ∷ 0 ∷ 0 ∷ 0 ∷ 0 ∷ []) ∷ []
-
--- the entry of a rule's line at a place within its share
-pub shared : (r i : ℕ) → i < length (shareOf r) → getD (getD shares (rowOf r) []) i 0 ≡ getD (shareOf r) i 0
-shared zero i h = refl
-shared (suc zero) zero h = refl
-shared (suc zero) (suc zero) h = refl
-shared (suc zero) (suc (suc i)) h = absurd (not-suc-le-zero (le-of-suc-le-suc (le-of-suc-le-suc h)))
-shared (suc (suc r)) zero h = refl
-shared (suc (suc r)) (suc i) h = absurd (not-suc-le-zero (le-of-suc-le-suc h))
+-- and the others row 2 · i
+pub share-less : (r i : ℕ) → (r ≡ 0 → ⊥) → i < length (shareOf r) → getD (shareOf r) i 0 ≡ 2 * i
+share-less zero i k h = absurd (k refl)
+share-less (suc zero) zero k h = refl
+share-less (suc zero) (suc zero) k h = refl
+share-less (suc zero) (suc (suc i)) k h = absurd (not-suc-le-zero (le-of-suc-le-suc (le-of-suc-le-suc h)))
+share-less (suc (suc r)) zero k h = refl
+share-less (suc (suc r)) (suc i) k h = absurd (not-suc-le-zero (le-of-suc-le-suc h))
 
 -- every axis is one of three
 pub axis-bound : (k j : ℕ) → getD (getD orders k []) j 0 < 3

@@ -25,12 +25,6 @@ share-few zero = omega arith
 share-few (suc zero) = omega arith
 share-few (suc (suc r)) = omega arith
 
--- a rule's line in a table by rule
-abbrev pub rowOf : ℕ → ℕ
-rowOf zero = 0
-rowOf (suc zero) = 1
-rowOf (suc (suc n)) = 2
-
 -- a rule's orientation i as an axis order
 abbrev pub orderAt : ℕ → ℕ → List ℕ
 orderAt rule i = getD orders (getD (shareOf rule) i 0) []

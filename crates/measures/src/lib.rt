@@ -3,7 +3,7 @@ ghost use mathlib.Core.Path.{_≡_};
 ghost use Prim.Native.Nat.{_≤_, _<_};
 ghost use mathlib.Core.List.{[]};
 ghost use lib.ListN.{length, getD};
-ghost use Rattle.measures.specs.Orders.{orders, shareOf, rowOf, turned, lengthsIn};
+ghost use Rattle.measures.specs.Orders.{orders, shareOf, turned, lengthsIn};
 ghost use Rattle.measures.specs.Among.{allTurned, lengthsAmong};
 ghost use Rattle.measures.specs.Volume.{volume};
 ghost use Rattle.measures.specs.Asked.{hasMass};
@@ -29,7 +29,7 @@ pub struct Container {
     pub limit: f64,
 }
 
-// The six axis orders, and by rule the rows of them that it allows and how many these are.
+// The six axis orders.
 const ORDERS: [[u8; 3]; 6] = [
     [0, 1, 2],
     [0, 2, 1],
@@ -39,36 +39,32 @@ const ORDERS: [[u8; 3]; 6] = [
     [2, 1, 0],
 ];
 
-const SHARES: [[u8; 6]; 3] = [[0, 1, 2, 3, 4, 5], [0, 2, 0, 0, 0, 0], [0, 0, 0, 0, 0, 0]];
-
-const COUNTS: [u8; 3] = [6, 2, 1];
-
 // Three lengths in each of the six orders.
 pub const SIX: usize = 18;
 
-// The rule's line in the tables. No accepted kind has a rule past 2; such a one counts as fixed.
-fn row(rule: u8) -> usize
-    ensures { λ r. ⌜ r ≡ rowOf rule ⌝ }
-{
-    if rule > 2 {
-        return 2;
-    }
-    rule as usize
-}
-
-// How many orientations a rule allows.
+// How many orientations a rule allows. No accepted kind has a rule past 2; such a one counts as fixed.
 pub fn allowed_orientations(rule: u8) -> usize
     ensures { λ r. ⌜ r ≡ length (shareOf rule) ⌝ }
 {
-    COUNTS[row(rule)] as usize
+    if rule == 0 {
+        return 6;
+    }
+    if rule == 1 {
+        return 2;
+    }
+    1
 }
 
-// The row of the rule's orientation i.
+// The row of the rule's orientation i: any has each row, upright rows 0 and 2, fixed row 0. A table of them would be made anew on the stack each
+// time, which took as long as all else that a fill does with an orientation.
 fn share(rule: u8, i: usize) -> usize
     requires { ⌜ i < length (shareOf rule) ⌝ }
     ensures { λ r. ⌜ (r ≡ getD (shareOf rule) i 0) × (r < 6) ⌝ }
 {
-    SHARES[row(rule)][i] as usize
+    if rule == 0 {
+        return i;
+    }
+    2 * i
 }
 
 // The axis on place j of row k.

@@ -110,13 +110,51 @@ fn plan_long(
     )
 }
 
-// Whether more boxes are considered than few cells hold, read off the order before it is tested, so that it is tested once, in columns
-// that do. Nothing is claimed of it: an order that few cells turn out not to hold gets more.
-fn is_long(order: &[u8], consider: u64) -> bool {
+// The same in columns for some lines; an order that they turn out not to hold gets more.
+fn plan_some(
+    points: bool,
+    order: &[u8],
+    consider: u64,
+    sheet: &mut [u8],
+    figures: &mut [u64; 2],
+) -> u64
+    ensures { λ r. ⌜ Answers (placerOf points) (now (order .entry)) consider (now (sheet .entry)) (now (figures .entry)) r (now (sheet .exit))
+        (now (figures .exit)) ⌝ }
+{
+    let mut ids = [0u32; domain::SOME_LINES];
+    let mut instances = [0u32; domain::SOME_LINES];
+    let mut turns = [0u32; domain::SOME_LINES];
+    let mut spots = [[0.0; 3]; domain::SOME_LINES];
+    let told = lay(
+        points,
+        order,
+        consider,
+        &mut ids,
+        &mut instances,
+        &mut turns,
+        &mut spots,
+    );
+    if told.refused == 6 {
+        return plan_long(points, order, consider, sheet, figures);
+    }
+    write_laid(
+        order,
+        told,
+        &ids,
+        &instances,
+        &turns,
+        &spots,
+        sheet,
+        figures,
+    )
+}
+
+// How many boxes are considered, read off the order before it is tested, so that it is tested once, in columns that hold them. Nothing is
+// claimed of it: an order that the columns turn out not to hold gets more.
+fn guessed(order: &[u8], consider: u64) -> u64 {
     let sections = records::sections_of(order);
     let many = sections.many;
-    (domain::FEW_LINES as u64)
-        < plan_sheet::smaller(consider, plan_boxes::boxes_of(order, many.kinds))
+    plan_sheet::smaller(consider, plan_boxes::boxes_of(order, many.kinds))
 }
 
 // The plan of an order by extreme points, in few cells where they do.
@@ -124,8 +162,12 @@ pub fn plan_points(order: &[u8], consider: u64, sheet: &mut [u8], figures: &mut 
     ensures { λ r. ⌜ Answers epPackingOf (now (order .entry)) consider (now (sheet .entry)) (now (figures .entry)) r (now (sheet .exit))
         (now (figures .exit)) ⌝ }
 {
-    if is_long(order, consider) {
+    let n = guessed(order, consider);
+    if (domain::SOME_LINES as u64) < n {
         return plan_long(true, order, consider, sheet, figures);
+    }
+    if (domain::FEW_LINES as u64) < n {
+        return plan_some(true, order, consider, sheet, figures);
     }
     let mut ids = [0u32; domain::FEW_LINES];
     let mut instances = [0u32; domain::FEW_LINES];
@@ -159,8 +201,12 @@ pub fn plan_layers(order: &[u8], consider: u64, sheet: &mut [u8], figures: &mut 
     ensures { λ r. ⌜ Answers layerFillOf (now (order .entry)) consider (now (sheet .entry)) (now (figures .entry)) r (now (sheet .exit))
         (now (figures .exit)) ⌝ }
 {
-    if is_long(order, consider) {
+    let n = guessed(order, consider);
+    if (domain::SOME_LINES as u64) < n {
         return plan_long(false, order, consider, sheet, figures);
+    }
+    if (domain::FEW_LINES as u64) < n {
+        return plan_some(false, order, consider, sheet, figures);
     }
     let mut ids = [0u32; domain::FEW_LINES];
     let mut instances = [0u32; domain::FEW_LINES];

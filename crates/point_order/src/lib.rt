@@ -6,6 +6,7 @@ ghost use lib.ListN.{length, getD, take};
 ghost use lib.Ieee.{nan};
 ghost use Rattle.point_order.specs.Order.{lesser, Falls};
 ghost use Rattle.point_order.specs.Insert.{Places, spotOf, opened};
+ghost use Rattle.point_order.specs.Begin.{NoneSmaller, beginOf};
 
 // The lesser of two numbers.
 fn lesser(a: usize, b: usize) -> usize
@@ -17,12 +18,13 @@ fn lesser(a: usize, b: usize) -> usize
     b
 }
 
-// The first of the first n places whose box is of smaller volume than v, or n.
-fn spot(volumes: &[f64], places: &[usize], n: usize, v: f64) -> usize
-    requires { ⌜ Places (now places) n (length (now volumes)) ⌝ }
+// The first of the first n places whose box is of smaller volume than v, or n; before `from` there is none.
+fn spot(volumes: &[f64], places: &[usize], from: usize, n: usize, v: f64) -> usize
+    requires { ⌜ Places (now places) n (length (now volumes)) × (from ≤ n)
+        × NoneSmaller (λ t. getD (now volumes) t nan) v (now places) from ⌝ }
     ensures { λ r. ⌜ r ≡ spotOf (λ t. getD (now (volumes .entry)) t nan) v (take n (now (places .entry))) ⌝ }
 {
-    let mut i = 0;
+    let mut i = from;
     while i < n {
         let t = places[i];
         if volumes[t] < v {
@@ -31,6 +33,21 @@ fn spot(volumes: &[f64], places: &[usize], n: usize, v: f64) -> usize
         i += 1;
     }
     n
+}
+
+// Where the search for the place of box t begins: behind the box before it, which stands at `last`, where that is not the smaller one; else at
+// the front. Boxes of one kind follow each other, so most are put in without a search.
+fn begin(volumes: &[f64], t: usize, last: usize) -> usize
+    requires { ⌜ (t < length (now volumes)) × (last ≤ t) ⌝ }
+    ensures { λ r. ⌜ r ≡ beginOf (λ u. getD (now (volumes .entry)) u nan) t last ⌝ }
+{
+    if t == 0 {
+        return 0;
+    }
+    if volumes[t] <= volumes[t - 1] {
+        return last + 1;
+    }
+    0
 }
 
 // Puts n at `at`, with the places from there up to n moved one on.
@@ -51,10 +68,12 @@ pub fn falling(volumes: &[f64], n: usize, places: &mut [usize])
     ensures { λ _. ⌜ Falls (now (volumes .entry)) n (now (places .entry)) (now (places .exit)) ⌝ }
 {
     let most = lesser(n, lesser(volumes.len(), places.len()));
+    let mut last = 0;
     let mut t = 0;
     while t < most {
-        let at = spot(volumes, places, t, volumes[t]);
-        put_in(places, at, t);
+        let from = begin(volumes, t, last);
+        last = spot(volumes, places, from, t, volumes[t]);
+        put_in(places, last, t);
         t += 1;
     }
 }

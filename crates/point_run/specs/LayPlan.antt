@@ -28,6 +28,7 @@ use Rattle.plan_sheet.specs.Plans.{Plan, leftBy, refusedPlan, plannedOf}
 use Rattle.sheet.specs.Columns.{idOf, instanceOf, orientationOf, spotOf}
 use Rattle.plan_sheet.specs.Laid.{planIn, toldOf, laid, Lays}
 use Rattle.plan_sheet.specs.LaidLaws.{laid-all}
+use Rattle.plan_sheet.specs.Room.{Roomy, hasRoom, fitting, has-room, fits-in}
 use Rattle.file_read.specs.Form.{rightShape, countsOf}
 use Rattle.file_read.specs.Reading.{kindFrom, kindPlace, kindsOf, sheetOf, refusalOf}
 use Rattle.file_read.specs.Refusal.{sheet-sound}
@@ -37,8 +38,9 @@ use Rattle.point_state.specs.Boxes.{volumeBelow}
 use Rattle.point_state.specs.Counts.{over, within-counts}
 use Rattle.point_state.specs.Fresh.{startOf, freshOf}
 use Rattle.point_stow.specs.Stow.{Stowed, stowedBy}
+use Rattle.point_run.specs.declared.Asking.{Asking}
 use Rattle.point_run.specs.declared.Stand.{Stand}
-use Rattle.point_run.specs.Boxes.{boxesBy}
+use Rattle.point_run.specs.Boxes.{Asked, boxesBy}
 use Rattle.point_run.specs.Runs.{lineOf, planFrom, runOf, epPackingOf, run-within, run-start}
 use Rattle.sheet.specs.Columns.{Columns}
 use Rattle.point_run.specs.Lay.{stowed, EachIs}
@@ -61,6 +63,32 @@ module _ (c : Container) (kinds : List Kind) (m : ℕ) (g : Stowed) (n : ℕ) (f
   unfolding planFrom plannedOf laid
   plan-laid part old =
       rw fair (filled-same old _ _ (g .next .held) (λ i l. ap part (table-at blankLine mostLines (lineOf g) (g .next .held) i noLine room l)))
+
+-- what is told of boxes that stand, of n considered
+abbrev pub standTold : Stand → ℕ → Container → Told
+standTold r n c = record { refused = 0; considered = n; placed = r .held; utilization = r .volume ⊘ volume (c .size) }
+
+-- ---- what is found out before a box is laid
+
+-- an accepted file with so many boxes, of which n are considered, and columns with room for them
+pub record Takes (f : List ℕ) (consider : ℕ) (t : Columns) (all n : ℕ) : Type 0 where
+  pub sound : refusalOf f ≡ 0
+  pub asked : Asked f all n
+  pub asked-for : n ≡ smaller consider all
+  pub room : Roomy t n
+
+-- a refusal, which is the plan's, or that there is none
+pub record AsksIs (f : List ℕ) (consider : ℕ) (t : Columns) (r : Asking) : Type 0 where
+  pub refuses : (r .refused ≡ 0 → ⊥) → fitting t (planIn epPackingOf f consider) ≡ refusedPlan (r .refused)
+  pub takes : r .refused ≡ 0 → Takes f consider t (r .all) (r .n)
+
+pub asks-refused : (f : List ℕ) (consider : ℕ) (t : Columns) (r : ℕ) → fitting t (planIn epPackingOf f consider) ≡ refusedPlan r → (r ≡ 0 → ⊥)
+    → AsksIs f consider t (record { refused = r; all = 0; n = 0 })
+asks-refused f consider t r e h = record { refuses = λ _. e; takes = λ z. absurd (h z) }
+
+pub asks-taken : (f : List ℕ) (consider : ℕ) (t : Columns) (all n : ℕ) → Takes f consider t all n
+    → AsksIs f consider t (record { refused = 0; all = all; n = n })
+asks-taken f consider t all n k = record { refuses = λ h. absurd (h refl); takes = λ _. k }
 
 -- ---- an accepted file
 
@@ -99,16 +127,15 @@ module _ (f : List ℕ) (consider : ℕ) (e : refusalOf f ≡ 0) where
       ∙ ap (λ (t : Told). t .considered)
       (plan-told (order .container) (order .kinds) (order .many .kinds) (run n) n (taken-sheet .few-of .kinds) (held-few n))
 
-  pub laid-by : (n : ℕ) (c : Container) (old now : Columns) (r : Stand) (u : Float) → n ≡ smaller consider all → c ≡ order .container
-      → EachIs c (order .kinds) (boxesBy order) n old r now → u ≡ r .volume ⊘ volume (c .size)
-      → Lays (planIn epPackingOf f consider) (record { refused = 0; considered = n; placed = r .held; utilization = u }) old now
-  laid-by n c old now r u m g h v =
+  laid-by : (n : ℕ) (c : Container) (old now : Columns) (r : Stand) → n ≡ smaller consider all → c ≡ order .container
+      → EachIs c (order .kinds) (boxesBy order) n old r now
+      → Lays (planIn epPackingOf f consider) (standTold r n c) old now
+  laid-by n c old now r m g h =
       let k = rw g at h in
-      let w = rw g at v in
       let p = plan-is n m in
       let few = taken-sheet .few-of .kinds in
       record {
-        told-is = rw (← p, w, k .held-is, k .volume-is) (sym (plan-told (order .container) (order .kinds) (order .many .kinds) (run n) n few (held-few n)));
+        told-is = rw (← p, g, k .held-is, k .volume-is) (sym (plan-told (order .container) (order .kinds) (order .many .kinds) (run n) n few (held-few n)));
         columns-are =
             laid-all (planIn epPackingOf f consider) old now (k .filled-is .ids-are ∙ sym (lines p idOf (old .ids)))
             (k .filled-is .instances-are ∙ sym (lines p instanceOf (old .instances))) (k .filled-is .turns-are ∙ sym (lines p orientationOf (old .turns)))
@@ -120,3 +147,12 @@ module _ (f : List ℕ) (consider : ℕ) (e : refusalOf f ≡ 0) where
           → laid part l (planIn epPackingOf f consider) ≡ filled l (λ i. part (lineOf (run n) i)) (run n .next .held)
       lines p part l =
           rw (← p) (plan-laid (order .container) (order .kinds) (order .many .kinds) (run n) n (taken-sheet .few-of .kinds) (held-few n) part l)
+
+-- **boxes laid as they are asked for are the plan, in columns that it fits**
+pub lays-taken : (f : List ℕ) (consider : ℕ) (old now : Columns) (all n : ℕ) (c : Container) (r : Stand) → Takes f consider old all n
+    → c ≡ sheetOf f .container → EachIs c (sheetOf f .kinds) (boxesBy (sheetOf f)) n old r now
+    → Lays (fitting old (planIn epPackingOf f consider)) (standTold r n c) old now
+lays-taken f consider old now all n c r t g h =
+    let m = t .asked-for ∙ ap (smaller consider) (t .asked .all-is) in
+    rw (fits-in old (planIn epPackingOf f consider) (ap (hasRoom old) (considers f consider (t .sound) n m) ∙ has-room old n (t .room)))
+    (laid-by f consider (t .sound) n c old now r m g h)

@@ -13,6 +13,7 @@ ghost use Rattle.point_step.specs.Step.{stores};
 ghost use Rattle.point_run.specs.Boxes.{Lists, Ready, Asked, Tables, boxesBy};
 ghost use Rattle.point_run.specs.Lay.{StoresFor, Blank, EachIs};
 ghost use Rattle.point_run.specs.Runs.{epPackingOf};
+ghost use Rattle.point_run.specs.LayPlan.{AsksIs, standTold};
 use file_read::records;
 use measures::Container;
 use plan_boxes::Instance;
@@ -248,26 +249,117 @@ fn lay_many(
     )
 }
 
-// In the smaller stores that do.
-fn lay_boxes(
-    f: &[u8],
-    c: Container,
+// What is found out of an order before a box is laid: that the file or the columns are refused, or how many boxes there are and how many
+// of them are considered.
+struct Asking {
+    refused: u32,
     all: usize,
     n: usize,
+}
+
+// Nothing but the refusal.
+fn refusing(number: u32) -> Asking
+    ensures { λ r. ⌜ r ≡ record { refused = number; all = 0; n = 0 } ⌝ }
+{
+    Asking {
+        refused: number,
+        all: 0,
+        n: 0,
+    }
+}
+
+// The test of the file, and the room in the columns for each box considered.
+fn asks(
+    order: &[u8],
+    consider: u64,
+    ids: &[u32],
+    instances: &[u32],
+    turns: &[u32],
+    spots: &[[f64; 3]],
+) -> Asking
+    ensures { λ r. ⌜ AsksIs (now (order .entry)) consider
+        (columns (now (ids .entry)) (now (instances .entry)) (now (turns .entry)) (now (spots .entry))) r ⌝ }
+{
+    let a = file_accept::accept(order);
+    if a.refused != 0 {
+        return refusing(a.refused);
+    }
+    let all = plan_boxes::boxes_of(order, a.kinds);
+    let n = plan_sheet::smaller(consider, all);
+    if !sheet::has_room(ids, instances, turns, spots, n as usize) {
+        return refusing(6);
+    }
+    Asking {
+        refused: 0,
+        all: all as usize,
+        n: n as usize,
+    }
+}
+
+// What is told of the boxes that stand, of so many considered.
+fn told_of(stand: Stand, n: usize, c: Container) -> Told
+    ensures { λ r. ⌜ r ≡ standTold stand n c ⌝ }
+{
+    let size = c.size;
+    Told {
+        refused: 0,
+        considered: n as u64,
+        placed: stand.held,
+        utilization: stand.volume / measures::measure(size),
+    }
+}
+
+// All boxes of the order in a file, largest first, as far as `consider` goes, with stores for as many boxes as there may be.
+fn lay_large(
+    order: &[u8],
+    consider: u64,
     ids: &mut [u32],
     instances: &mut [u32],
     turns: &mut [u32],
     spots: &mut [[f64; 3]],
-) -> Stand
-    requires { ⌜ Asked (now f) all n × Roomy (columns (now ids) (now instances) (now turns) (now spots)) n ⌝ }
-    ensures { λ r. ⌜ EachIs c (sheetOf (now (f .entry)) .kinds) (boxesBy (sheetOf (now (f .entry)))) n
+) -> Told
+    ensures { λ r. ⌜ Lays (fitting
         (columns (now (ids .entry)) (now (instances .entry)) (now (turns .entry)) (now (spots .entry)))
-        r (columns (now (ids .exit)) (now (instances .exit)) (now (turns .exit)) (now (spots .exit))) ⌝ }
+        (planIn epPackingOf (now (order .entry)) consider)) r
+        (columns (now (ids .entry)) (now (instances .entry)) (now (turns .entry)) (now (spots .entry)))
+        (columns (now (ids .exit)) (now (instances .exit)) (now (turns .exit)) (now (spots .exit))) ⌝ }
 {
-    if all <= domain::FEW_BOXES {
-        return lay_few(f, c, all, n, ids, instances, turns, spots);
+    let q = asks(order, consider, ids, instances, turns, spots);
+    if q.refused != 0 {
+        return plan_sheet::refused_told(q.refused);
     }
-    lay_many(f, c, all, n, ids, instances, turns, spots)
+    let c = records::container_in(order);
+    let n = q.n;
+    let stand = lay_many(order, c, q.all, n, ids, instances, turns, spots);
+    told_of(stand, n, c)
+}
+
+// The same with stores for few boxes; an order of more gets the others.
+fn lay_small(
+    order: &[u8],
+    consider: u64,
+    ids: &mut [u32],
+    instances: &mut [u32],
+    turns: &mut [u32],
+    spots: &mut [[f64; 3]],
+) -> Told
+    ensures { λ r. ⌜ Lays (fitting
+        (columns (now (ids .entry)) (now (instances .entry)) (now (turns .entry)) (now (spots .entry)))
+        (planIn epPackingOf (now (order .entry)) consider)) r
+        (columns (now (ids .entry)) (now (instances .entry)) (now (turns .entry)) (now (spots .entry)))
+        (columns (now (ids .exit)) (now (instances .exit)) (now (turns .exit)) (now (spots .exit))) ⌝ }
+{
+    let q = asks(order, consider, ids, instances, turns, spots);
+    if q.refused != 0 {
+        return plan_sheet::refused_told(q.refused);
+    }
+    if domain::FEW_BOXES < q.all {
+        return lay_large(order, consider, ids, instances, turns, spots);
+    }
+    let c = records::container_in(order);
+    let n = q.n;
+    let stand = lay_few(order, c, q.all, n, ids, instances, turns, spots);
+    told_of(stand, n, c)
 }
 
 // All boxes of the order in a file, largest first, as far as `consider` goes: the plan's lines in the columns, and what is told
@@ -286,31 +378,8 @@ pub fn lay_points(
         (columns (now (ids .entry)) (now (instances .entry)) (now (turns .entry)) (now (spots .entry)))
         (columns (now (ids .exit)) (now (instances .exit)) (now (turns .exit)) (now (spots .exit))) ⌝ }
 {
-    let a = file_accept::accept(order);
-    if a.refused != 0 {
-        return plan_sheet::refused_told(a.refused);
+    if domain::FEW_BOXES < ids.len() {
+        return lay_large(order, consider, ids, instances, turns, spots);
     }
-    let c = records::container_in(order);
-    let size = c.size;
-    let all = plan_boxes::boxes_of(order, a.kinds);
-    let n = plan_sheet::smaller(consider, all);
-    if !sheet::has_room(ids, instances, turns, spots, n as usize) {
-        return plan_sheet::refused_told(6);
-    }
-    let stand = lay_boxes(
-        order,
-        c,
-        all as usize,
-        n as usize,
-        ids,
-        instances,
-        turns,
-        spots,
-    );
-    Told {
-        refused: 0,
-        considered: n,
-        placed: stand.held,
-        utilization: stand.volume / measures::measure(size),
-    }
+    lay_small(order, consider, ids, instances, turns, spots)
 }

@@ -2,8 +2,11 @@
 use check_packing::Checked;
 use sheet::Sheet;
 
-// Words lent: 1,700 slots of five, enough for every sheet of the sample but one.
+// Words lent: 1,700 slots of five, enough for every sheet of the sample but the crowds.
 const WORDS: usize = 8500;
+
+// More findings than a sheet can have: each line's own six and its pairs among them.
+const MOST_FOUND: usize = domain::MOST_LINES * domain::MOST_LINES;
 
 // What stands in lent words that no call is to change.
 const UNTOUCHED: u64 = 11936128518282651045;
@@ -41,7 +44,7 @@ fn same_words(b: &[u8], from: usize, words: &[u64; WORDS], n: usize) -> bool {
 
 // The words of so many findings.
 fn words_of(found: usize) -> usize {
-    if found > 40000 {
+    if found > MOST_FOUND {
         return 0;
     }
     found * 5
@@ -97,7 +100,7 @@ fn same_fill(b: &[u8], at: usize) -> bool {
 
 // The place past n words from `at` on.
 fn past_words(at: usize, n: usize) -> usize {
-    if n > 100000 {
+    if n > 5 * MOST_FOUND {
         return at;
     }
     replay_vectors::past(at, n * 8)

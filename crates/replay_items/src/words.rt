@@ -1,7 +1,7 @@
 // Lists of numbers of 32 bits: read from the sample, lent, and held against it.
 
-// Room for the longest list, with some to spare.
-pub(crate) const MOST: usize = 1024;
+// Room for the longest list, three numbers for each record, with some to spare.
+pub(crate) const MOST: usize = 4 * domain::MOST_INSTANCES;
 
 // What stands in lent numbers that no call is to change.
 pub(crate) const UNTOUCHED: u32 = 2779096485;

@@ -36,6 +36,9 @@ fn last_line(fill: LayerFill) -> Line {
     lines[n - 1]
 }
 
+// What is expected of a call on a full fill: this refusal, and nothing moved.
+const FULL: u32 = 7;
+
 // Whether the box went where is expected at `at`, or was expected to get no.
 fn same_answer(b: &[u8], at: usize, p: Placing, id: u32, instance: u32) -> bool {
     let fill = p.next;
@@ -46,9 +49,10 @@ fn same_answer(b: &[u8], at: usize, p: Placing, id: u32, instance: u32) -> bool 
         let who = (l.id == id) & (l.instance == instance) & (l.bin == 0);
         let way = l.orientation == replay_vectors::u32_at(b, replay_vectors::past(at, 4));
         return (took == 1)
+            & (p.refused == 0)
             & (who & (way & replay_vectors::same_three(b, replay_vectors::past(at, 8), v)));
     }
-    took == 0
+    (took == p.refused) & ((took == 0) | (took == FULL))
 }
 
 // One call: a kind's place, an instance and an orientation, then what is expected.
@@ -65,7 +69,7 @@ fn call(b: &[u8], s: Sheet, r: Progress) -> Progress {
     let answer = same_answer(b, replay_vectors::past(at, 12), p, kind.id, instance);
     let moved = same_cursor(b, replay_vectors::past(at, 44), cursor);
     Progress {
-        same: r.same & ((p.refused == 0) & (answer & moved)),
+        same: r.same & (answer & moved),
         fill: next,
         at: replay_vectors::past(at, 84),
     }

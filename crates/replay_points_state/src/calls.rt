@@ -26,6 +26,9 @@ fn same_last(b: &[u8], at: usize, set: ExtremePointSet, id: u32, instance: u32) 
     found.found & (who & replay_vectors::same_three(b, at, position))
 }
 
+// What is expected of a call on a full placer: this refusal, and nothing moved.
+const FULL: u32 = 7;
+
 // Whether the answer is what is expected at `at`.
 fn same_answer(b: &[u8], at: usize, tried: Tried, id: u32, instance: u32) -> bool {
     let next = tried.next;
@@ -42,7 +45,7 @@ fn same_answer(b: &[u8], at: usize, tried: Tried, id: u32, instance: u32) -> boo
             (took == 1) & (count & (there & same_last(b, place, next, id, instance)))
         }
         Answer::NoRoom => (took == 0) & (count & there),
-        Answer::Refused(_) => false,
+        Answer::Refused(n) => (took == FULL) & ((n == FULL) & (count & there)),
     }
 }
 

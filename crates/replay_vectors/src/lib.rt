@@ -47,11 +47,11 @@ pub fn kind_of(s: Sheet, k: usize) -> Kind
 }
 
 // Room for a sample, all zeros. The length is said apart, as lending the array as a slice needs it so.
-pub fn buffer() -> [u8; 327680]
-    ensures { λ r. ⌜ 327680 ≡ length r ⌝ }
-    ensures { λ r. ⌜ r ≡ replicate 327680 0 ⌝ }
+pub fn buffer() -> [u8; 524288]
+    ensures { λ r. ⌜ 524288 ≡ length r ⌝ }
+    ensures { λ r. ⌜ r ≡ replicate 524288 0 ⌝ }
 {
-    [0; 327680]
+    [0; 524288]
 }
 
 // Before the first case.

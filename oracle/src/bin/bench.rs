@@ -3,6 +3,7 @@
 //! The Rust's own call is timed alone, its input made before; the port is timed through its boundary, from bytes to
 //! bytes. Both in one process, the shortest of many rounds.
 
+use oracle::refusals::{MOST_BEFORE, MOST_BOXES};
 use oracle::timing::{inputs, time_rust, Input};
 
 const MILLISECONDS: u64 = 300;
@@ -31,8 +32,31 @@ fn time_port(_: &Input) -> Option<f64> {
     None
 }
 
+/// What was timed: the input, the Rust's time and the port's, in nanoseconds.
+type Row = (Input, f64, Option<f64>);
+
+/// How many times as long each side takes at the bound as at the bound of before.
+fn print_growth(rows: &[Row]) {
+    println!("\n{:<8} {:<28} {:>12} {:>12}", "growth", &format!("from {MOST_BEFORE} to {MOST_BOXES}"), "Rust", "port");
+    for (input, rust, port) in rows.iter().filter(|row| u64::from(row.0.boxes) == MOST_BOXES) {
+        let same = |row: &&Row| {
+            row.0.boxes as usize == MOST_BEFORE && row.0.name == input.name && row.0.engine == input.engine
+        };
+        if let Some((_, rust_before, port_before)) = rows.iter().find(same) {
+            let grown = port.zip(*port_before).map_or("-".to_string(), |(now, before)| format!("{:.2}", now / before));
+            println!(
+                "{:<8} {:<28} {:>12.2} {grown:>12}",
+                format!("{:?}", input.engine),
+                input.name,
+                rust / rust_before
+            );
+        }
+    }
+}
+
 fn main() {
     println!("{:<8} {:<28} {:>5} {:>12} {:>12} {:>6}", "engine", "input", "boxes", "Rust µs", "port µs", "ratio");
+    let mut rows = Vec::new();
     for input in inputs() {
         let rust = time_rust(&input, MILLISECONDS);
         let port = time_port(&input);
@@ -42,5 +66,7 @@ fn main() {
         };
         let engine = format!("{:?}", input.engine);
         println!("{engine:<8} {:<28} {:>5} {:>12.3} {us:>12} {ratio:>6}", input.name, input.boxes, rust / 1e3);
+        rows.push((input, rust, port));
     }
+    print_growth(&rows);
 }

@@ -25,7 +25,7 @@ put-lines-requires : tie.Need-put-lines-requires
 put-lines-requires c κs =
     let k = c .before .before .before .before in
     let t = start-of k .pre in
-    (t, (ids-read _ _ t (k .kind-columns .ensures .0), (many-read _ _ t (k .kind-columns .ensures .1), refl)))
+    ((t, (ids-read _ _ t (k .kind-columns .ensures .1), (many-read _ _ t (k .kind-columns .ensures .2), refl))), k .kind-columns .ensures .0)
 
 -- the words of the lines
 lines-few : (c : tie.After-put-lines)
@@ -45,9 +45,9 @@ put-rest-requires c κs =
     let put = l .put-lines .ensures in (
       t,
       (
-        ids-read _ _ t (k .kind-columns .ensures .0),
+        ids-read _ _ t (k .kind-columns .ensures .1),
         (
-          many-read _ _ t (k .kind-columns .ensures .1),
+          many-read _ _ t (k .kind-columns .ensures .2),
           ((λ i b. put .packed-are i (rw (← (kinds-are _ _ t)) b)), (omega (arith, lines-few l, n, square (s .args .a .lines) n), put .mass-is)),
         ),
       ),

@@ -15,19 +15,19 @@ use Rattle.check_packing.proofs.put_columns.Tie as tie
 
 -- the places that the calls lead to, one from the other
 abbrev start-of : tie.After-first-column → tie.Start
-start-of c = c .before .before .before .before .before .before .before
+start-of c = c .before .before .before .before .before .before .before .before
 
 abbrev firsts-of : tie.After-line-columns → tie.After-first-column
 firsts-of c = c .before .before .before
 
-abbrev lines-of : tie.After-mark-columns-arg3 → tie.After-line-columns
-lines-of c = c .before .before .before .before .before .before .before .before
+abbrev lines-of : tie.After-mark-columns-arg4 → tie.After-line-columns
+lines-of c = c .before .before .before .before .before .before .before .before .before
 
 abbrev marks-of : tie.After-line-findings → tie.After-mark-columns
-marks-of c = c .before .before .before .before .before .before .before .before .before
+marks-of c = c .before .before .before .before .before .before .before .before .before .before .before
 
 first-column-requires : tie.Need-first-column-requires
-first-column-requires c κs = let s = c .before .before .before .before .before .before in (s .pre .0 .0, s .pre .0 .1 .1 .0)
+first-column-requires c κs = let s = c .before .before .before .before .before .before .before in (s .pre .0 .0, s .pre .0 .1 .1 .0)
 
 line-columns-requires : tie.Need-line-columns-requires
 line-columns-requires c κs =
@@ -41,7 +41,7 @@ mark-columns-requires c κs =
     let e = l .line-columns .ensures .1 in (
       marks-read _ _ (s .pre .0 .0) (cells-read _ _ (s .pre .0 .0) (s .args .which .now) (kindNamed (sheetOf (s .args .f .now))) 0 e (w .which-long)) (s .pre .0 .1 .1 .0)
           (firsts-of l .first-column .ensures),
-      (s .pre .0 .1 .1 .1, (rw (e, filled-length) (w .which-long), w .again-long)),
+      (s .pre .0 .1 .1 .1, (rw (e, filled-length) (w .which-long), (w .again-long, s .pre .2))),
     )
 
 returns : tie.Need-returns
@@ -77,4 +77,4 @@ pub put-columns-spec : {M : Type 1} → statement M
 put-columns-spec =
     tie.close
     (tie.spec first-column-requires line-columns-requires mark-columns-requires (λ c κs. search needs) (λ c κs. search needs) (λ c κs. search needs) same-length
-    same-length-2 same-length-3 same-length-4 returns)
+    same-length-2 same-length-3 same-length-4 (λ c. search needs) returns)

@@ -2,8 +2,9 @@
 use Prim.Native.Nat.{_≤_}
 use native.Mathlib.Omega.{arith}
 use lib.ListN.{length-replicate}
-use Rattle.domain.specs.Bounds.{mostLines}
-use Rattle.check_packing.proofs.Read.{few-lines}
+use Rattle.domain.specs.Bounds.{mostLines, mostBoxes}
+use Rattle.check_packing.proofs.Read.{few-lines, few-boxes}
+use Rattle.check_packing.proofs.Holds.{unmarked}
 use Rattle.check_words.specs.Writes.{wrote-length}
 use borrow.Author.Needs.{needs}
 use Rattle.check_packing.proofs.put_many.Statement.{statement}
@@ -11,16 +12,20 @@ use Rattle.check_packing.proofs.put_many.Tie as tie
 
 put-columns-requires : tie.Need-put-columns-requires
 put-columns-requires c κs =
-    let s = c .before .before .before .before .before .before .before in
-    let few : s .args .a .lines ≤ mostLines = few-lines _ _ (s .pre .0) in
-    (s .pre, record { few = few; which-long = rw length-replicate (omega arith); again-long = rw length-replicate (omega arith); boxes-long = rw length-replicate (omega arith) })
+    let s = c .before .before .before .before .before .before .before .before in
+    let few : s .args .a .lines ≤ mostLines = few-lines _ _ (s .pre .0) in (
+      s .pre,
+      record { few = few; which-long = rw length-replicate (omega arith); again-long = rw length-replicate (omega arith); boxes-long = rw length-replicate (omega arith) },
+      unmarked _ _ mostBoxes (omega arith) (few-boxes _ _ (s .pre .0)),
+    )
 
 same-length : tie.Need-same-length
-same-length c = wrote-length (c .before .before .before .before .before .put-columns .ensures .put .words)
+same-length c = wrote-length (c .before .before .before .before .before .before .put-columns .ensures .put .words)
 
 returns : tie.Need-returns
-returns c = c .before .before .before .before .before .put-columns .ensures
+returns c = c .before .before .before .before .before .before .put-columns .ensures
 
 pub put-many-spec : {M : Type 1} → statement M
 put-many-spec =
-    tie.close (tie.spec (λ c. search needs) (λ c. search needs) (λ c. search needs) put-columns-requires same-length returns)
+    tie.close
+    (tie.spec (λ c. search needs) (λ c. search needs) (λ c. search needs) (λ c. search needs) put-columns-requires same-length returns)

@@ -1,21 +1,19 @@
--- `measures::allowed_orientations` meets its contract: the table has by rule how many orders its share has.
-use native.Mathlib.Omega.{arith}
-use borrow.Author.Needs.{needs}
-use Rattle.measures.specs.Orders.{share-few}
-use Rattle.measures.proofs.Tables.{row-bound, counted}
+-- `measures::allowed_orientations` meets its contract, by the test that led to each return.
+use mathlib.Core.Path.{sym, ap}
+use lib.ListN.{length}
+use Rattle.measures.specs.Orders.{shareOf}
+use Rattle.measures.proofs.Tables.{share-past}
 use Rattle.measures.proofs.allowed_orientations.Statement.{statement}
 use Rattle.measures.proofs.allowed_orientations.Tie as tie
 
-array-read-result : tie.Need-array-read-result
-array-read-result c = rw (c .row .ensures) (row-bound (c .before .args .rule))
-
-cast-result : tie.Need-cast-result
-cast-result c =
-    let rule = c .before .args .rule in
-    rw (c .row .ensures) (let h = share-few rule in let e = counted rule in record { fits = omega arith })
-
 returns : tie.Need-returns
-returns c = rw (c .row .ensures) (counted (c .before .args .rule))
+returns c = rw (c .if1 .taken)
+
+returns-2 : tie.Need-returns-2
+returns-2 c = rw (c .if2 .taken)
+
+returns-3 : tie.Need-returns-3
+returns-3 c = rw (share-past _ (c .before .if1 .left) (c .if2 .left))
 
 pub allowed-orientations-spec : {M : Type 1} → statement M
-allowed-orientations-spec = tie.close (tie.spec (λ c κs. search needs) array-read-result cast-result returns)
+allowed-orientations-spec = tie.close (tie.spec returns returns-2 returns-3)

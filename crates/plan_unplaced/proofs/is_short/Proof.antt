@@ -1,4 +1,4 @@
--- `plan_unplaced::is_short` meets its contract. Over 256 are more than the lines can place.
+-- `plan_unplaced::is_short` meets its contract. More than there may be lines are never all placed.
 use Prim.Native.Nat.{_<_, _≤_}
 use mathlib.Core.Path.{_≡_, sym}
 use native.Mathlib.Omega.{arith}

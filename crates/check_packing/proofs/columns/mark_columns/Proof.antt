@@ -3,9 +3,9 @@ use mathlib.Core.Path.{_≡_, refl, sym, ap, _∙_}
 use Prim.Native.Nat.{ℕ, suc, _+_, _≤_, _<_, _-_}
 use native.Mathlib.Numerals.{add-one}
 use native.Mathlib.Omega.{arith}
-use mathlib.Core.Bool.{_&&_}
+use mathlib.Core.Bool.{false, _&&_, _||_}
 use lib.Dec.{ltb}
-use lib.ListN.{length, getD}
+use lib.ListN.{length, getD, replicate, length-set}
 use Rattle.domain.specs.Bounds.{mostKinds, mostLines, placeWithin}
 use Rattle.lists.specs.Below.{sumBelow}
 use Rattle.lists.specs.Table.{filled, filled-length}
@@ -16,25 +16,32 @@ use Rattle.file_read.specs.Records.{line-is}
 use Rattle.check_packing.specs.Lines.{repeats, packed, counted}
 use Rattle.check_packing.specs.Columns.{kindMany}
 use Rattle.check_packing.proofs.Read.{sound, kinds-are, lines-are, few-lines, counts-read}
-use Rattle.check_packing.proofs.Marks.{Marked, marked-start, turn, first-at}
+use Rattle.check_packing.proofs.Marks.{Marked, marked-start, turn, first-at, slot-in}
 use borrow.Author.Needs.{needs}
 use Rattle.check_packing.proofs.columns.mark_columns.Statement.{statement}
 use Rattle.check_packing.proofs.columns.mark_columns.Tie as tie
 
 abbrev Inv-loop : tie.InvT-loop
-Inv-loop f which many firsts again₀ packed₀ m n start seen₀ i₀ again packed seen i =
-    (i ≤ n) × (again ≡ filled again₀ (repeats (sheetOf f)) i) × Marked (sheetOf f) i seen packed
+Inv-loop f which many firsts again₀ packed₀ seen₀ m n start i₀ again packed seen i =
+    (i ≤ n) × (again ≡ filled again₀ (repeats (sheetOf f)) i) × Marked (sheetOf f) i seen packed × (length seen ≡ length seen₀)
 
 abbrev μ-loop : tie.MeasureT-loop
-μ-loop f which many firsts again₀ packed₀ m n start seen₀ i₀ again packed seen i = n - i
+μ-loop f which many firsts again₀ packed₀ seen₀ m n start i₀ again packed seen i = n - i
 
 -- the place where the function begins, from the loop
 abbrev start : tie.At-loop Inv-loop μ-loop → tie.Start Inv-loop μ-loop
-start l = l .before .before .before .before
+start l = l .before .before .before .before .before
 
 loop-holds : tie.Need-loop-holds Inv-loop μ-loop
 unfolding filled
-loop-holds c = let s = c .before .before .before in (omega arith, refl, rw (s .pre .1 .0) (marked-start _ (sound _ _ (s .pre .0 .file-taken))))
+loop-holds c =
+    let s = c .before .before .before .before in
+    let t = s .pre .0 .file-taken in
+    let u = s .pre .1 .1 .1 .1 in
+    let seen = s .args .seen .now in
+    let start : Marked (sheetOf (s .args .f .now)) 0 (replicate (length seen) false) (replicate mostKinds 0) =
+    marked-start (sheetOf (s .args .f .now)) (sound _ _ t) (length seen) (rw (kinds-are _ _ t) at (u .enough)) in
+    (omega arith, refl, rw (s .pre .1 .0) (rw (← (u .none-set)) at start), refl)
 
 inside : (c : tie.In-loop Inv-loop μ-loop) → start (c .before) .args .a .lines ≤ mostLines
 inside c = few-lines _ _ (start (c .before) .pre .0 .file-taken)
@@ -44,13 +51,13 @@ in-which : (c : tie.In-loop Inv-loop μ-loop) → c .before .loop .i < length (s
 in-which c = let h = start (c .before) .pre .1 .1 .0 in let l = c .loop-test .taken in omega arith
 
 in-again : (c : tie.In-loop Inv-loop μ-loop) → c .before .loop .i < length (start (c .before) .args .again .now)
-in-again c = let h = start (c .before) .pre .1 .1 .1 in let l = c .loop-test .taken in omega arith
+in-again c = let h = start (c .before) .pre .1 .1 .1 .0 in let l = c .loop-test .taken in omega arith
 
 loop-again : tie.Need-loop-again Inv-loop μ-loop
 unfolding filled
 loop-again c =
     let one = c .before in
-    let o = one .before in
+    let o = one .before .before in
     let p = o .before .before .before .before .before in
     let r = p .before .before in
     let l = r .before .before in
@@ -70,11 +77,13 @@ loop-again c =
     counts-read (s .args .f .now) (s .args .a) t (s .args .many .now) (q .many-is) i line el named w₁ ew (p .place-within .ensures .0) in
     let w = p .place-within .ensures .0 ∙ ap placeWithin ew in
     let first = first-at (sheetOf (s .args .f .now)) (sound _ _ t) (s .args .firsts .now) (s .args .a .kinds) (kinds-are _ _ t) (q .first-is) i w₁ w in
+    let at = o .slot .result in
+    let kept = length-set (l .loop .seen) at (getD (l .loop .seen) at false || counts) in
     let step =
     turn (sheetOf (s .args .f .now)) (sound _ _ t) i (l .loop .seen) (l .loop .packed) (v .2) counts k (getD (s .args .firsts .now) w₁ 0) (o .slot .result) w₁
     (one .one-if .result)
-    first (line .instance) (ap (λ (x : Line). x .instance) el) (o .slot .ensures .0) w (one .one-if .ensures .0) in
-    (omega arith, rw (add-one, ← (v .1)) (rw (step .0)), rw add-one (step .1))
+    first (line .instance) (ap (λ (x : Line). x .instance) el) (o .slot .ensures) w (one .one-if .ensures .0) in
+    (omega arith, rw (add-one, ← (v .1)) (rw (step .0)), rw add-one (step .1), kept ∙ v .3)
 
 returns : tie.Need-returns Inv-loop μ-loop
 unfolding packed
@@ -87,10 +96,16 @@ returns c =
     (rw e at (v .1), λ k below. v .2 .sums k (rw (← (kinds-are _ _ t)) below) ∙ ap (sumBelow _) (e ∙ lines-are _ _ t))
 
 abbrev place-of-line : (c : tie.After-one-if Inv-loop μ-loop) → tie.After-place-within Inv-loop μ-loop
-place-of-line c = c .before .before .before .before .before .before
+place-of-line c = c .before .before .before .before .before .before .before
 
 one-more : (c : tie.After-one-if Inv-loop μ-loop) → _≤_ (start (place-of-line c .before .before .before .before) .args .a .lines) mostLines
 one-more c = inside (place-of-line c .before .before .before)
+
+-- the mark that is read is among them
+slot-lt : (c : tie.After-slot Inv-loop μ-loop) → c .slot .result < length (c .before .before .before .before .before .before .before .before .before .loop .seen)
+slot-lt c =
+    let l = c .before .before .before .before .before .before .before .before .before in
+    rw (c .slot .ensures) (slot-in (length (l .loop .seen)) _ _ _ (rw (l .loop .inv .3) (start l .pre .1 .1 .1 .1 .some)))
 
 same-length : tie.Need-same-length Inv-loop μ-loop
 same-length c = rw (c .before .loop .inv .1) (filled-length _ _ _)
@@ -121,10 +136,10 @@ mark-columns-spec =
     (λ c. omega (arith, c .before .before .before .place-within .ensures .1))
     (λ c. omega (arith, c .before .before .before .place-within .ensures .1))
     (λ c κs. search needs)
-    (λ c. omega (arith, c .slot .ensures .1))
+    (λ c. slot-lt (c .before))
     (λ c κs. search needs)
     (λ c. rw (place-of-line c .before .before .before .before .loop .inv .1, filled-length) (in-again (place-of-line c .before .before .before)))
-    (λ c. omega (arith, c .before .slot .ensures .1))
+    (λ c. slot-lt (c .before .before))
     (λ c. omega (arith, place-of-line c .place-within .ensures .1))
     (λ c. omega (arith, place-of-line c .place-within .ensures .1))
     add-packed
@@ -134,4 +149,5 @@ mark-columns-spec =
     (λ c. omega arith)
     loop-again
     same-length
+    (λ c. c .before .loop .inv .3)
     returns)
