@@ -1,13 +1,13 @@
 -- Past the last cell a write changes nothing, and goes on by as many words as there are: five for a finding.
-use mathlib.Core.Path.{◌≡◌, refl, sym, ◌∙◌}
+use mathlib.Core.Path.{◌≡◌, refl, sym}
 use mathlib.Core.Bool.{Bool, true, false, cond, ◌&&◌}
 use mathlib.Core.List.{List, [], ◌∷◌}
 use Prim.Native.Nat.{ℕ, suc, ◌+◌, ◌≤◌}
 use native.Mathlib.Nat.{le_refl, add-zero}
 use native.Mathlib.Omega.{arith}
-use lib.ListN.{length, set, length-set}
+use lib.ListN.{length}
 use lib.Seq.{sets, set_out}
-use lib.Ieee.{Float, binary64, to_bits}
+use lib.Ieee.{Float}
 use Rattle.check_pair.specs.declared.Verdict.{Verdict}
 use Rattle.check_pair.specs.declared.Verdict.TheVariants.{Apart, Overlap, TooClose}
 use Rattle.check_pair.specs.Close.{is_found}

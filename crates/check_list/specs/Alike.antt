@@ -1,6 +1,6 @@
 -- Two views that agree on their lines give them the same findings: of an unknown line neither kind nor box is looked at.
 use Rattle.std.specs.Prelude.{◌≡◌, refl, Bool, true, false, ◌&&◌, List, ◌++◌, ℕ, ◌<◌, ltb}
-use Rattle.std.proofs.Common.{sym, ◌∙◌}
+use Rattle.std.proofs.Common.{◌∙◌}
 use Rattle.std.proofs.Math.Path.{ap}
 use Rattle.lists.specs.Below.{all_below, all_same}
 use Rattle.lists.specs.Bools.{and_left, and_right}

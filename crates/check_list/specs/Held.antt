@@ -1,7 +1,6 @@
 -- What bytes and columns hold: the view that they give of the lines, the words that they give to the kinds; and what a run over them does.
-use Rattle.std.specs.Prelude.{ℕ, ◌+◌, ◌*◌, ◌/◌, ◌-◌, ◌<◌, ◌≤◌, ◌≡◌, refl, Bool, true, false, cond, ◌||◌, List, [], ◌∷◌, ◌++◌, ltb, length, get_or, Float}
+use Rattle.std.specs.Prelude.{ℕ, ◌+◌, ◌*◌, ◌/◌, ◌-◌, ◌<◌, ◌≤◌, ◌≡◌, refl, Bool, true, false, cond, ◌||◌, List, [], ◌++◌, ltb, length, get_or, Float}
 use Rattle.std.proofs.Common.{arith, ltb-false, le-ltb}
-use Rattle.std.specs.Float.{nan}
 use Rattle.floats.specs.Ops.{none}
 use Rattle.lists.specs.Below.{all_below}
 use Rattle.domain.specs.Bounds.{most_lines}

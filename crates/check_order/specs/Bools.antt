@@ -1,7 +1,6 @@
 -- Laws on tests, and on words that are given only where a test holds.
-use Rattle.std.specs.Prelude.{◌≡◌, refl, Bool, true, false, ◌&&◌, List, ℕ}
-use Rattle.std.proofs.Common.{sym, ap, ◌∙◌}
-use Rattle.std.proofs.Math.Bool.{and-false}
+use Rattle.std.specs.Prelude.{◌≡◌, refl, Bool, true, false, List, ℕ}
+use Rattle.std.proofs.Common.{ap, ◌∙◌}
 use Rattle.check_words.specs.Words.{only_if}
 
 pub only_same : (b c : Bool) (ws vs : List ℕ) → b ≡ c → (b ≡ true → ws ≡ vs) → only_if b ws ≡ only_if c vs

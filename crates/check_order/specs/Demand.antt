@@ -10,7 +10,6 @@ use Rattle.sheet.specs.declared.Sheet.{Sheet}
 use Rattle.sheet.specs.Sheets.{kind_at, line_at, unplaced_at, sheet_refusal}
 use Rattle.check_packing.specs.Check.{checked_of, cells_of}
 use Rattle.check_words.specs.Words.{only_if}
-use Rattle.check_packing.specs.Findings.{findings, missing}
 
 -- ---- "two accepted sheets that differ only in the order of their placement lines"
 

@@ -18,7 +18,6 @@ use Rattle.check_order.specs.Bools.{only_same}
 use Rattle.check_order.specs.Reordered.{other}
 use Rattle.check_list.specs.Finding.{name_words, place_words, verdict_words}
 use Rattle.check_list.specs.View.{verdict_found}
-use Rattle.check_packing.specs.Findings.{findings}
 use Rattle.check_order.specs.ByLine.{own_findings, pair_words, verdict_on}
 use Rattle.check_list.specs.View.{pair_found}
 

@@ -31,7 +31,7 @@ use Rattle.check_order.specs.Parts.{apart, each_mass, pick_parts, no_lines, no_p
 use Rattle.check_order.specs.Kinds.{known_same, kind_for_same}
 use Rattle.check_list.specs.Finding.{mass_words}
 use Rattle.check_list.specs.View.{mass_found}
-use Rattle.check_packing.specs.Findings.{findings, mass_finding, missing}
+use Rattle.check_packing.specs.Findings.{findings, mass_finding}
 
 -- ---- what is picked
 

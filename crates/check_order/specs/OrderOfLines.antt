@@ -23,7 +23,7 @@ use Rattle.check_order.specs.Pairs.{pair_found_lem, no_pair}
 use Rattle.check_order.specs.Repeats.{repeated_same}
 use Rattle.check_order.specs.Unplaced.{unplaced_same}
 use Rattle.check_order.specs.Mass.{mass_finding_same}
-use Rattle.check_packing.specs.Findings.{findings, missing}
+use Rattle.check_packing.specs.Findings.{findings}
 use Rattle.check_order.specs.ByLine.{own_findings, pair_words}
 
 -- ---- the second sheet as the first with other lists

@@ -24,7 +24,7 @@ use Rattle.lists.specs.Below.{all_below}
 use Rattle.check_words.specs.Words.{only_if}
 use Rattle.check_list.specs.Finding.{box_inside, name_words, place_words}
 use Rattle.check_list.specs.View.{line_found}
-use Rattle.check_packing.specs.Findings.{findings, line_findings, missing}
+use Rattle.check_packing.specs.Findings.{findings, line_findings}
 use Rattle.check_order.specs.ByLine.{own_findings, repeat_finding}
 
 module _ (s : Sheet) (i : ℕ) where

@@ -25,7 +25,7 @@ use Rattle.lists.specs.Below.{all_below}
 use Rattle.check_words.specs.Words.{only_if}
 use Rattle.check_list.specs.Finding.{verdict_words}
 use Rattle.check_list.specs.View.{pair_found, pairs_found, verdict_found}
-use Rattle.check_packing.specs.Findings.{findings, missing, pair_finding, pairs_from}
+use Rattle.check_packing.specs.Findings.{findings, pair_finding, pairs_from}
 use Rattle.check_order.specs.ByLine.{pair_words, verdict_on}
 
 -- ---- which of the pairs k < m is the pair of i and j

@@ -5,7 +5,6 @@ use Rattle.std.proofs.Common.{sym, ap, ◌∙◌, append_assoc, append-nil, arit
 use Rattle.check_order.specs.Demand.{Finding, finding, words_of, pick, change, Each}
 use Rattle.lists.specs.Below.{all_below}
 use Rattle.check_words.specs.Words.{only_if}
-use Rattle.check_packing.specs.Findings.{findings}
 
 -- ---- whole findings, each of which is so
 

@@ -1,11 +1,10 @@
 -- The columns that are filled from an accepted file give the view of its sheet.
 use mathlib.Core.Path.{◌≡◌, refl, sym, ap, ◌∙◌, subst}
 use mathlib.Core.Bool.{Bool, true, false, cond}
-use mathlib.Core.List.{List, [], ◌∷◌, ◌++◌, append_assoc}
+use mathlib.Core.List.{List, [], ◌++◌, append_assoc}
 use Prim.Native.Nat.{ℕ, ◌+◌, ◌*◌, ◌/◌, ◌<◌, ◌≤◌}
 use native.Mathlib.Omega.{arith}
 use borrow.Author.Tests.{ltb-true}
-use lib.Dec.{ltb}
 use lib.ListN.{length, get_or, replicate, length-replicate, get_or-replicate}
 use lib.Ieee.{Float}
 use Rattle.floats.specs.Ops.{none}
@@ -16,7 +15,7 @@ use Rattle.measures.specs.declared.Kind.{Kind}
 use Rattle.measures.specs.declared.Container.{Container}
 use Rattle.sheet.specs.declared.Counts.{Counts}
 use Rattle.sheet.specs.declared.Sheet.{Sheet}
-use Rattle.sheet.specs.Sheets.{over_count, kind_at, line_at}
+use Rattle.sheet.specs.Sheets.{over_count, line_at}
 use Rattle.file_read.specs.Reading.{sheet_of}
 use Rattle.file_read.specs.Records.{kind_in, many_is, line_is}
 use Rattle.file_accept.specs.declared as taking

@@ -3,22 +3,22 @@
 use mathlib.Core.Path.{◌≡◌, refl, sym, ap, ◌∙◌}
 use mathlib.Core.Bool.{Bool, true, false, not, ◌&&◌, ◌||◌}
 use mathlib.Core.List.{List, [], ◌∷◌}
-use Prim.Native.Nat.{ℕ, suc, ◌<◌, ◌≤◌}
+use Prim.Native.Nat.{ℕ, suc, ◌<◌}
 use native.Mathlib.Omega.{arith}
 use borrow.Author.Tests.{ltb-true, lt-ltb, eqb-true, eqb-false, eq-eqb}
 use lib.Dec.{eqb, ltb}
-use lib.ListN.{length, get_or, set, replicate, length-set, length-replicate, get_or-replicate}
+use lib.ListN.{get_or, set, replicate, length-set, length-replicate, get_or-replicate}
 use lib.Seq.{get_or-set_same, get_or-set_other}
 use Rattle.domain.specs.Bounds.{most_kinds, place_within}
-use Rattle.lists.specs.Below.{any_below, is_at, any_same}
-use Rattle.lists.specs.Bools.{and_left, and_right, same_bool, or_none, or_some}
+use Rattle.lists.specs.Below.{any_below, is_at}
+use Rattle.lists.specs.Bools.{and_left, and_right, same_bool, or_none}
 use Rattle.sheet.specs.declared.Sheet.{Sheet}
 use Rattle.sheet.specs.Sheets.{kind_at, unplaced_at}
 use Rattle.sheet.specs.Accepted.{Accepted}
 use Rattle.check_words.specs.Words.{only_if}
 use Rattle.check_list.specs.Finding.{wrong_words}
 use Rattle.check_list.specs.View.{wrong_found}
-use Rattle.check_packing.specs.Lines.{kind_of, is_known, short}
+use Rattle.check_packing.specs.Lines.{kind_of, short}
 use Rattle.check_packing.specs.Findings.{wrongly_listed}
 use Rattle.check_packing.specs.Columns.{Listed, Short}
 use Rattle.check_packing.proofs.ById.{kind_hit, own_kind}

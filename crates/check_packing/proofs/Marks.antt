@@ -5,22 +5,21 @@ use mathlib.Core.Bool.{Bool, true, false, not, cond, ◌&&◌, ◌||◌, true≢
 use mathlib.Core.Logic.{⊎_elim}
 use mathlib.Core.List.{List}
 use Prim.Native.Nat.{ℕ, zero, suc, ◌+◌, ◌<◌, ◌≤◌}
-use native.Mathlib.Nat.{eq-or-lt_of_le, le_of_suc-le-suc, not-suc-le-zero, add-zero, le_refl}
+use native.Mathlib.Nat.{eq-or-lt_of_le, le_of_suc-le-suc, add-zero, le_refl}
 use native.Mathlib.Decide.{dec_lt}
 use native.Mathlib.Omega.{arith}
-use borrow.Author.Tests.{ltb-true, lt-ltb, eqb-true, eqb-false, eq-eqb, ne_eqb}
+use borrow.Author.Tests.{ltb-true, lt-ltb, eqb-true, eqb-false, eq-eqb}
 use lib.Dec.{eqb, ltb}
 use lib.ListN.{length, get_or, set, replicate, length-set, length-replicate, get_or-replicate}
 use lib.Seq.{get_or-set_same, get_or-set_other, set_out}
-use Rattle.domain.specs.Bounds.{most_kinds, most_lines, most_boxes, place_within}
+use Rattle.domain.specs.Bounds.{most_kinds, most_boxes, place_within}
 use Rattle.domain.specs.Refusals.{when}
 use Rattle.lists.specs.Below.{any_below, sum_below, any_same}
 use Rattle.lists.specs.Bools.{and_left, and_right, same_bool, or_none, or_some}
 use Rattle.sheet.specs.declared.Sheet.{Sheet}
-use Rattle.sheet.specs.declared.Line.{Line}
 use Rattle.sheet.specs.Sheets.{kind_at, line_at, quantity_of}
 use Rattle.sheet.specs.Accepted.{Accepted}
-use Rattle.check_packing.specs.Lines.{kind_of, is_known, known, kind_for, same_as, again, counted, repeats, packs, packed, short}
+use Rattle.check_packing.specs.Lines.{kind_of, known, kind_for, same_as, again, counted, repeats, packs, packed, short}
 use Rattle.check_packing.specs.Columns.{kind_many, kind_first, kind_named, slot_of, short_in}
 use Rattle.check_packing.proofs.ById.{kind_hit}
 use Rattle.check_packing.proofs.Packed.{of_kind}

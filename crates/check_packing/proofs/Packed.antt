@@ -8,12 +8,12 @@ use borrow.Author.Tests.{ltb-true, lt-ltb, eqb-true, eq-eqb}
 use lib.Dec.{eqb, ltb}
 use lib.ListN.{get_or}
 use Rattle.domain.specs.Bounds.{most_lines}
-use Rattle.lists.specs.Below.{any_below, sum_below}
+use Rattle.lists.specs.Below.{sum_below}
 use Rattle.domain.specs.Refusals.{when}
 use Rattle.lists.specs.Bools.{and_left, and_right, same_bool}
 use Rattle.sheet.specs.declared.Sheet.{Sheet}
 use Rattle.sheet.specs.declared.Line.{Line}
-use Rattle.sheet.specs.Sheets.{kind_at, line_at, no_line}
+use Rattle.sheet.specs.Sheets.{kind_at, line_at}
 use Rattle.sheet.specs.Accepted.{Accepted}
 use Rattle.lists.specs.Below.{any_same}
 use Rattle.plan_unplaced.specs.Short.{places, is_placed, distinct_placed, Named, names_of, named}

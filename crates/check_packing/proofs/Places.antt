@@ -1,16 +1,14 @@
 -- The place of a kind in a column of ids is its place on the sheet.
-use mathlib.Core.Path.{◌≡◌, refl, sym, ap, ◌∙◌}
-use mathlib.Core.Bool.{Bool, true, false, cond}
+use mathlib.Core.Path.{◌≡◌, refl, sym}
 use mathlib.Core.Logic.{⊎_elim}
 use mathlib.Core.List.{List}
-use Prim.Native.Nat.{ℕ, zero, suc, ◌<◌, ◌≤◌}
+use Prim.Native.Nat.{ℕ, zero, suc, ◌<◌}
 use native.Mathlib.Nat.{eq-or-lt_of_le, le_of_suc-le-suc, not-suc-le-zero}
 use native.Mathlib.Omega.{arith}
-use borrow.Author.Tests.{ltb-true, lt-ltb, le-ltb, eq-eqb, ne_eqb}
-use lib.Dec.{eqb, ltb}
+use borrow.Author.Tests.{lt-ltb, le-ltb, eq-eqb, ne_eqb}
 use lib.ListN.{get_or}
 use Rattle.sheet.specs.declared.Sheet.{Sheet}
-use Rattle.check_packing.specs.Lines.{kind_below, kind_of}
+use Rattle.check_packing.specs.Lines.{kind_below}
 use Rattle.check_packing.specs.Columns.{kind_id, place_below, Ids}
 
 module _ (ids : List ℕ) (id : ℕ) where

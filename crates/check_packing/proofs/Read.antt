@@ -1,6 +1,6 @@
 -- What is read out of an accepted file's bytes is what stands on its sheet.
-use mathlib.Core.Path.{◌≡◌, refl, sym, ap, ◌∙◌}
-use mathlib.Core.Bool.{Bool, true, false, not, cond, ◌&&◌}
+use mathlib.Core.Path.{◌≡◌, refl, ap, ◌∙◌}
+use mathlib.Core.Bool.{Bool, true, false, ◌&&◌}
 use mathlib.Core.List.{List}
 use Prim.Native.Nat.{ℕ, ◌<◌, ◌≤◌}
 use native.Mathlib.Omega.{arith}
@@ -9,16 +9,12 @@ use lib.Dec.{ltb}
 use lib.ListN.{get_or}
 use lib.Ieee.{Float}
 use Rattle.domain.specs.Bounds.{most_kinds, most_boxes, most_lines, most_unplaced, place_within}
-use Rattle.domain.specs.Refusals.{when}
-use Rattle.domain.specs.Laws.{or_else_second}
 use Rattle.measures.specs.declared.Kind.{Kind}
 use Rattle.sheet.specs.declared.Counts.{Counts}
 use Rattle.sheet.specs.declared.Line.{Line}
-use Rattle.sheet.specs.declared.Sheet.{Sheet}
-use Rattle.sheet.specs.Sheets.{kind_at, line_at, unplaced_at, sheet_refusal}
-use Rattle.sheet.specs.Accepted.{Accepted, accepted, Few}
-use Rattle.file_read.specs.Form.{right_shape, counts_of}
-use Rattle.file_read.specs.Reading.{sheet_of, refusal_of}
+use Rattle.sheet.specs.Sheets.{kind_at, line_at}
+use Rattle.sheet.specs.Accepted.{Accepted, accepted}
+use Rattle.file_read.specs.Reading.{sheet_of}
 pub use Rattle.file_read.specs.Refusal.{sheet_sound}
 use Rattle.file_read.specs.Records.{kind_in, bounds, many_is, kind_is}
 use Rattle.file_accept.specs.Accept.{Taken}

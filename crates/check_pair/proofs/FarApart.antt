@@ -10,7 +10,7 @@ use Rattle.floats.specs.Order.{le_chain, le_number_l, lt_not_le}
 use Rattle.lists.specs.Bools.{and_left, and_right, and_none}
 use Rattle.check_pair.specs.declared.Verdict.{Verdict}
 use Rattle.check_pair.specs.Pair.{overlaps, verdict_at}
-use Rattle.check_pair.specs.Shortcut.{plain, some_gap, far_enough, limit_of}
+use Rattle.check_pair.specs.Shortcut.{plain, some_gap, limit_of}
 use Rattle.check_pair.proofs.Verdicts.{at_far}
 
 le_number_r : (v w : Float) → T (le v w) → T (not (is_nan w))

@@ -1,5 +1,5 @@
 -- What a bit pattern stands for.
-use Rattle.std.specs.Prelude.{◌≡◌, refl, ℕ, zero, suc, ◌+◌, ◌-◌, ◌*◌, ◌/◌, ◌%◌, ◌^◌}
+use Rattle.std.specs.Prelude.{◌≡◌, refl, ℕ, zero, suc, ◌+◌, ◌*◌, ◌/◌, ◌%◌, ◌^◌}
 use Rattle.std.proofs.Common.{sym, ap, ◌∙◌, arith, pow-add}
 use Rattle.check_root.specs.Sqrt.{mag, mant}
 

@@ -1,5 +1,5 @@
 -- The ranges of lengths, measures, limits and positions, as tests on floats. A NaN is in no order with anything, so it is in no range.
-use Rattle.std.specs.Prelude.{ℕ, ◌^◌, ◌≡◌, refl, Bool, true, false, ◌&&◌, ◌||◌, not, eqb, Float}
+use Rattle.std.specs.Prelude.{◌^◌, ◌≡◌, refl, Bool, false, ◌&&◌, ◌||◌, not, eqb, Float}
 use Rattle.std.specs.Float.{binary64}
 use Rattle.std.specs.Float.Ieee.{of_bits, to_bits, le, lt, neg, round}
 

@@ -1,7 +1,7 @@
 -- What a file is accepted as: its refusal, and where it has none the counts of its sections and where its lines start and end. RULES: Refusals
 use Rattle.std.specs.Prelude.{◌≡◌, refl, Bool, true, false, not, cond, List, ℕ, eqb}
-use Rattle.std.proofs.Common.{sym, ap, ◌∙◌, arith, eqb-true, ne_eqb}
-use Rattle.domain.specs.Refusals.{when, or_else}
+use Rattle.std.proofs.Common.{sym, ap, ◌∙◌, eqb-true, ne_eqb}
+use Rattle.domain.specs.Refusals.{when}
 use Rattle.lists.specs.Bools.{not_true_of}
 use Rattle.domain.specs.Laws.{or_else_first, or_else_second, when_none}
 use Rattle.sheet.specs.Sheets.{over_count, sheet_refusal}

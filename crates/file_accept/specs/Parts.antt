@@ -1,6 +1,6 @@
 -- The refusal of a sheet in the parts that a test of the bytes works out one after another. RULES: Refusals
 use Rattle.std.specs.Prelude.{◌≡◌, refl, Bool, true, false, not, ◌||◌, List, ℕ, zero, suc, ltb, get_or, Float}
-use Rattle.std.proofs.Common.{sym, ap, ◌∙◌}
+use Rattle.std.proofs.Common.{ap, ◌∙◌}
 use Rattle.floats.specs.Ops.{x, y, z}
 use Rattle.domain.specs.Bounds.{most_boxes}
 use Rattle.domain.specs.Ranges.{is_position}

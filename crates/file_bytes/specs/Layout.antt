@@ -1,7 +1,7 @@
 -- A record is described by the widths of its fields in turn. Where a field stands, how long the record is, and its bytes follow.
 -- RULES: Load file
 use Rattle.std.specs.Prelude.{ℕ, zero, suc, ◌+◌, ◌≡◌, refl, List, [], ◌∷◌, ◌++◌, length}
-use Rattle.std.proofs.Common.{arith, length-append}
+use Rattle.std.proofs.Common.{length-append}
 use Rattle.file_bytes.specs.Bytes.{number_at, bytes_of}
 
 -- the length of a record

@@ -1,6 +1,6 @@
 -- A number by its bytes, by its halves, and past the end: what the code of each width works out.
 use Rattle.std.specs.Prelude.{ℕ, zero, suc, ◌+◌, ◌*◌, ◌/◌, ◌%◌, ◌≤◌, ◌≡◌, refl, List, [], ◌∷◌, ◌++◌, length, get_or}
-use Rattle.std.proofs.Common.{ap, arith}
+use Rattle.std.proofs.Common.{arith}
 use Rattle.std.proofs.Math.Numerals.{towards_suc}
 use Rattle.std.proofs.Math.ListN.{get_or-eq_default}
 use Rattle.file_bytes.specs.Bytes.{number_at, bytes_of, byte_at, u16_at, u32_at, u64_at, u32_out, u64_out}

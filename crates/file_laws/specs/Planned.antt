@@ -1,6 +1,6 @@
 -- A planned sheet written from the order's bytes and the plan's columns is the file of that sheet: `write_plan` answers and leaves what `write_sheet` would.
 -- RULES: Load file, Plans
-use Rattle.std.specs.Prelude.{ℕ, ◌+◌, ◌*◌, ◌≤◌, ◌<◌, ◌≡◌, Bool, true, List, ◌++◌, leb, length, get_or}
+use Rattle.std.specs.Prelude.{ℕ, ◌*◌, ◌≤◌, ◌<◌, ◌≡◌, Bool, true, List, ◌++◌, leb, length, get_or}
 use Rattle.std.proofs.Math.Path.{refl, sym, ap}
 use Rattle.std.proofs.Common.{◌∙◌, append_assoc, arith}
 use Rattle.std.proofs.Math.Bool.{false}
@@ -8,22 +8,20 @@ use Rattle.std.proofs.Math.Dec.{ltb}
 use borrow.Author.Tests.{le-ltb}
 use Rattle.lists.specs.Below.{all_same}
 use Rattle.domain.specs.Bounds.{most_kinds, most_lines}
-use Rattle.sheet.specs.declared.Counts.{Counts}
 use Rattle.sheet.specs.declared.Sheet.{Sheet}
-use Rattle.sheet.specs.Sheets.{kind_at, line_at, unplaced_at, sheet_refusal}
+use Rattle.sheet.specs.Sheets.{line_at, unplaced_at, sheet_refusal}
 use Rattle.sheet.specs.Accepted.{accepted}
 use Rattle.file_bytes.specs.Bytes.{u32_out, part}
 use Rattle.file_bytes.specs.Layout.{fields_out}
 use Rattle.file_read.specs.Form.{line_fields, block_bytes, kind_bytes, counts_of}
 use Rattle.file_read.specs.Reading.{container_from, kinds_of, sheet_of, refusal_of}
-use Rattle.file_read.specs.Records.{many_is}
-use Rattle.file_write.specs.Writing.{container_out, kinds_out, line_numbers, line_out, lines_out, ids_out, trailer_out, lines_from, file_of, file_length, written_of}
+use Rattle.file_write.specs.Writing.{container_out, kinds_out, line_numbers, line_out, lines_out, ids_out, lines_from, file_of, file_length, written_of}
 use Rattle.file_write.specs.Writing.{bytes_after}
 use Rattle.sheet.specs.Columns.{Columns, column_line}
 use Rattle.file_write.specs.Planned.{columns_out, plan_out, over_plan, plan_written, plan_after}
 use Rattle.sheet.specs.Room.{Roomy, has_room_lem}
 use Rattle.file_laws.specs.Parts.{Bytes, joined}
-use Rattle.file_laws.specs.ReadWrite.{AcceptedFile, accepted_file, block_is, kinds_are}
+use Rattle.file_laws.specs.ReadWrite.{accepted_file, block_is, kinds_are}
 
 -- s is the order f with these lines and ids of what was left
 pub record Plans (f : List ℕ) (c : Columns) (left : List ℕ) (s : Sheet) : Type 0 where

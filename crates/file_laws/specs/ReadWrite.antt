@@ -6,9 +6,9 @@ use Rattle.std.specs.Float.Ieee.Bits.{to_bits-of_bits}
 use Rattle.domain.specs.Bounds.{most_kinds, most_lines, most_unplaced}
 use Rattle.domain.specs.Refusals.{when}
 use Rattle.lists.specs.Bools.{not_true_of}
-use Rattle.domain.specs.Laws.{or_else_first, or_else_second, when_none}
+use Rattle.domain.specs.Laws.{or_else_first, when_none}
 use Rattle.sheet.specs.declared.Counts.{Counts}
-use Rattle.sheet.specs.Sheets.{no_kind, no_line, sheet_refusal}
+use Rattle.sheet.specs.Sheets.{no_kind, no_line}
 use Rattle.sheet.specs.Accepted.{Accepted, accepted}
 use Rattle.file_bytes.specs.Bytes.{word, float, u64_at, f64_at, u32_out, part}
 use Rattle.file_bytes.specs.Layout.{fields_at}

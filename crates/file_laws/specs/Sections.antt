@@ -1,6 +1,6 @@
 -- Laws on sections, which are records of one width after another.
 use Rattle.std.specs.Prelude.{ℕ, zero, suc, ◌+◌, ◌*◌, ◌≤◌, ◌<◌, ◌≡◌, refl, List, ◌++◌, length}
-use Rattle.std.proofs.Common.{sym, ◌∙◌, ⊎_elim, eq-or-lt_of_le, le_of_suc-le-suc, not-suc-le-zero, suc-mul, mul-le-mul_right, arith}
+use Rattle.std.proofs.Common.{⊎_elim, eq-or-lt_of_le, le_of_suc-le-suc, not-suc-le-zero, suc-mul, mul-le-mul_right, arith}
 use Rattle.lists.specs.Below.{all_below, fewer}
 use Rattle.file_bytes.specs.Bytes.{part}
 use Rattle.file_write.specs.Stores.{all_length}

@@ -1,5 +1,5 @@
 -- A sheet's cells past its counts hold nothing that a file says. `tidy` blanks them; neither the file of a sheet nor its refusal depends on them.
-use Rattle.std.specs.Prelude.{ℕ, zero, suc, ◌≤◌, ◌<◌, ◌≡◌, refl, ◌↔◌, Bool, List, get_or}
+use Rattle.std.specs.Prelude.{ℕ, zero, suc, ◌≤◌, ◌<◌, ◌≡◌, refl, ◌↔◌, List, get_or}
 use Rattle.std.proofs.Common.{sym, ap, ◌∙◌, arith}
 use Rattle.domain.specs.Bounds.{most_kinds, most_lines, most_unplaced}
 use Rattle.domain.specs.Refusals.{first_below}

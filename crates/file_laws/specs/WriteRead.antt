@@ -27,7 +27,7 @@ use Rattle.file_read.specs.Shaped.{Placed, Shaped}
 use Rattle.file_read.specs.Refusal.{sheet_decides}
 use Rattle.file_write.specs.Stores.{file_length_is}
 use Rattle.file_laws.specs.Layout.{file_bytes, block_there, kind_there, line_there, id_there, trailer_there}
-use Rattle.file_laws.specs.Typed.{Held, TypedVector, TypedContainer, TypedKind, TypedLine, Typed}
+use Rattle.file_laws.specs.Typed.{Held, TypedContainer, TypedKind, TypedLine, Typed}
 use Rattle.file_laws.specs.Tidy.{tidy, Blank, tidy_blank, tidy_refusal}
 
 -- ---- records: what was written at a place is read there

@@ -1,5 +1,5 @@
 -- The layout of a load file, form 1, and its shape: where its sections start, and when that is right. RULES: Load file
-use Rattle.std.specs.Prelude.{ℕ, ◌+◌, ◌-◌, ◌*◌, ◌/◌, ◌%◌, Bool, ◌&&◌, List, [], ◌∷◌, leb, eqb, length, get_or}
+use Rattle.std.specs.Prelude.{ℕ, ◌-◌, ◌/◌, ◌%◌, Bool, ◌&&◌, List, [], ◌∷◌, leb, eqb, length, get_or}
 use Rattle.sheet.specs.declared.Counts.{Counts}
 use Rattle.file_bytes.specs.Bytes.{byte, half, word, float}
 use Rattle.file_bytes.specs.Layout.{width_of, fields_at}

@@ -1,13 +1,11 @@
 -- What a load file says: its container, kinds, lines and unplaced ids, and the refusal that it gets. RULES: Load file, Refusals
-use Rattle.std.specs.Prelude.{ℕ, zero, suc, ◌+◌, ◌*◌, cond, not, List, [], ◌∷◌, eqb, get_or, set, replicate, Float}
+use Rattle.std.specs.Prelude.{ℕ, ◌+◌, ◌*◌, cond, not, List, [], ◌∷◌, eqb, get_or, Float}
 use Rattle.std.specs.Float.{binary64}
 use Rattle.std.specs.Float.Ieee.{of_bits}
-use Rattle.floats.specs.Ops.{none}
 use Rattle.lists.specs.Table.{filled, table}
 use Rattle.domain.specs.Refusals.{when, or_else}
 use Rattle.measures.specs.declared.Kind.{Kind}
 use Rattle.measures.specs.declared.Container.{Container}
-use Rattle.sheet.specs.declared.Counts.{Counts}
 use Rattle.sheet.specs.declared.Line.{Line}
 use Rattle.sheet.specs.declared.Sheet.{Sheet}
 use Rattle.sheet.specs.Sheets.{Most, most_now, sheet_refusal_by, empty_sheet}

@@ -1,12 +1,11 @@
 -- A file's sections and records out of its bytes, for every list of bytes; and of a file that can be read they are those of its sheet.
-use Rattle.std.specs.Prelude.{◌≡◌, refl, Bool, true, false, cond, List, ℕ, ◌+◌, ◌-◌, ◌*◌, ◌/◌, ◌<◌, ◌≤◌, ltb, leb, length}
+use Rattle.std.specs.Prelude.{◌≡◌, refl, Bool, true, false, cond, List, ℕ, ◌+◌, ◌-◌, ◌*◌, ◌/◌, ◌<◌, ltb, leb, length}
 use Rattle.std.proofs.Common.{sym, ap, ◌∙◌, arith, le-ltb}
 use Rattle.std.proofs.lemmas.Bool.{lt-leb}
 use Rattle.floats.specs.Ops.{none, nowhere}
 use Rattle.domain.specs.Bounds.{most_kinds, most_lines, most_unplaced}
 use Rattle.measures.specs.declared.Kind.{Kind}
 use Rattle.measures.specs.declared.Container.{Container}
-use Rattle.sheet.specs.declared.Counts.{Counts}
 use Rattle.sheet.specs.declared.Line.{Line}
 use Rattle.sheet.specs.Sheets.{over_count, kind_at, line_at, unplaced_at, blank_kind, blank_line}
 use Rattle.sheet.specs.Accepted.{Few, few}

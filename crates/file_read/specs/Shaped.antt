@@ -1,6 +1,6 @@
 -- What is known of a file of the right shape.
-use Rattle.std.specs.Prelude.{◌≡◌, refl, Bool, true, false, ◌&&◌, List, [], ◌∷◌, ℕ, ◌+◌, ◌-◌, ◌*◌, ◌≤◌, ◌%◌, leb, eqb, length, get_or}
-use Rattle.std.proofs.Common.{sym, ◌∙◌, arith, leb-true, eqb-true, le-leb}
+use Rattle.std.specs.Prelude.{◌≡◌, Bool, true, ◌&&◌, List, [], ◌∷◌, ℕ, ◌+◌, ◌-◌, ◌*◌, ◌≤◌, ◌%◌, leb, eqb, length, get_or}
+use Rattle.std.proofs.Common.{arith, leb-true, eqb-true, le-leb}
 use Rattle.lists.specs.Bools.{and_left, and_right}
 use Rattle.sheet.specs.declared.Counts.{Counts}
 use Rattle.file_bytes.specs.Bytes.{byte_at, u16_at, u32_at}

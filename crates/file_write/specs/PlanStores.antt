@@ -1,13 +1,13 @@
 -- What the stores of a planned sheet give together, and the answer in each case.
-use Rattle.std.specs.Prelude.{ℕ, zero, suc, ◌+◌, ◌*◌, ◌≤◌, ◌<◌, ◌≡◌, refl, ◌||◌, List, [], ◌∷◌, ◌++◌, drop, get_or, set, ltb}
-use Rattle.std.proofs.Common.{sym, ◌∙◌, zero-add, arith, length-append, length-take, take-suc, length-take-le}
+use Rattle.std.specs.Prelude.{ℕ, suc, ◌+◌, ◌*◌, ◌≤◌, ◌<◌, ◌≡◌, refl, List, [], ◌∷◌, ◌++◌, get_or, set, ltb}
+use Rattle.std.proofs.Common.{sym, ◌∙◌, zero-add, arith, length-append, take-suc, length-take-le}
 use Rattle.std.proofs.Math.Bool.{true, false}
 use Rattle.std.proofs.Math.ListN.{length}
 use Rattle.std.proofs.Math.Seq.{sets-eq}
 use Rattle.std.proofs.Math.Dec.{leb}
 use borrow.Author.Tests.{le-leb, lt-leb, lt-ltb, le-ltb, ltb-false}
 use Rattle.lists.specs.Bools.{or_left, or_right}
-use Rattle.domain.specs.Bounds.{most_kinds, most_lines, most_unplaced}
+use Rattle.domain.specs.Bounds.{most_kinds, most_lines}
 use Rattle.sheet.specs.declared.Counts.{Counts}
 use Rattle.sheet.specs.Accepted.{Few}
 use Rattle.file_bytes.specs.Bytes.{part}

@@ -1,6 +1,6 @@
 -- A planned sheet written from the order's bytes and the plan's columns: the container block and the kinds stay the bytes that they are.
 -- RULES: Load file, Plans
-use Rattle.std.specs.Prelude.{ℕ, ◌+◌, ◌*◌, Bool, cond, not, ◌||◌, List, ◌++◌, eqb, ltb, leb, length, drop}
+use Rattle.std.specs.Prelude.{ℕ, Bool, cond, not, ◌||◌, List, ◌++◌, eqb, ltb, leb, length, drop}
 use Rattle.domain.specs.Bounds.{most_kinds, most_lines}
 use Rattle.sheet.specs.declared.Counts.{Counts}
 use Rattle.sheet.specs.Columns.{Columns, column_line}

@@ -1,6 +1,6 @@
 -- The lengths of what is written, and a whole file stored.
-use Rattle.std.specs.Prelude.{◌≡◌, refl, List, ◌++◌, ℕ, zero, suc, ◌+◌, ◌*◌, ◌≤◌, length, get_or, drop}
-use Rattle.std.proofs.Common.{sym, ◌∙◌, arith, zero-add, length-append}
+use Rattle.std.specs.Prelude.{◌≡◌, List, ◌++◌, ℕ, zero, suc, ◌*◌, ◌≤◌, length, get_or, drop}
+use Rattle.std.proofs.Common.{◌∙◌, arith, zero-add, length-append}
 use Rattle.std.proofs.lemmas.List.Edits.{sets-eq}
 use Rattle.measures.specs.declared.Kind.{Kind}
 use Rattle.measures.specs.declared.Container.{Container}
@@ -10,7 +10,7 @@ use Rattle.sheet.specs.declared.Sheet.{Sheet}
 use Rattle.sheet.specs.Sheets.{no_kind, no_line}
 use Rattle.lists.specs.Below.{all_below}
 use Rattle.file_bytes.specs.Bytes.{word, u32_out}
-use Rattle.file_bytes.specs.Layout.{fields_out, bytes_length, fields_length}
+use Rattle.file_bytes.specs.Layout.{bytes_length, fields_length}
 use Rattle.file_bytes.specs.Stores.{Put}
 use Rattle.file_read.specs.Form.{block_fields, kind_fields, line_fields, trailer_fields, block_bytes, kind_bytes, line_bytes, id_bytes, trailer_bytes}
 use Rattle.file_write.specs.Writing.{container_numbers, kind_numbers, line_numbers, trailer_numbers, container_out, kind_out, line_out, trailer_out}

@@ -1,7 +1,7 @@
 -- The worked example, by computation, and its neighbours: an unknown kind, a length with a fraction, one that divides with a rest, and the bound.
-use Rattle.std.specs.Prelude.{◌≡◌, ℕ, ◌-◌, List, [], ◌∷◌, ◌++◌, replicate, from_bits, to_bits, refl, Float}
+use Rattle.std.specs.Prelude.{◌≡◌, ℕ, ◌-◌, List, [], ◌∷◌, ◌++◌, replicate, refl, Float}
 use Rattle.std.specs.Float.{binary64}
-use Rattle.std.specs.Float.Ieee.{of_int, lt, le, eq, neg, to_unsigned}
+use Rattle.std.specs.Float.Ieee.{of_bits, to_bits, of_int, lt, le, eq, neg, to_unsigned}
 use Rattle.floats.specs.Ops.{none}
 use Rattle.floats.specs.Whole.{whole}
 use Rattle.domain.specs.Bounds.{most_kinds, most_lines, most_unplaced}
@@ -32,7 +32,7 @@ loaded width ls n =
     }
 
 abbrev four_and_aHalf : Float
-four_and_aHalf = from_bits binary64 0x4012000000000000
+four_and_aHalf = of_bits binary64 0x4012000000000000
 
 abbrev both : List Line
 both = placed 7 none ∷ placed 7 four_and_aHalf ∷ []
@@ -50,6 +50,6 @@ pub worked :
     × (fill_of (loaded (whole 10000) both 2) ≡ filled 0 0)
     × (fill_of (loaded (whole 10001) both 2) ≡ filled 8 0)
 unfolding fill_of fill_refusal sheet_refusal or_else container_fault first_below kind_fault_in kind_fault any_below same_id sum_below
-    quantity_of line_fault_in line_fault uneven uneven_kind side_of whole_or_none per_thousand solid_of solid_named solid_if line_volume from_bits to_bits of_int lt le
+    quantity_of line_fault_in line_fault uneven uneven_kind side_of whole_or_none per_thousand solid_of solid_named solid_if line_volume of_bits to_bits of_int lt le
     eq neg to_unsigned
 worked = (refl, refl, refl, refl, refl, refl)

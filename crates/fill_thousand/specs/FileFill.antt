@@ -1,11 +1,8 @@
 -- The fill per thousand of a load file: its refusal, or the fill of the sheet that it says. RULES: Fill per thousand
-use Rattle.std.specs.Prelude.{◌≡◌, ℕ, Bool, true, false, cond, not, ◌||◌, List, ◌==◌, ◌≢◌, refl}
-use Rattle.std.proofs.Common.{sym, ap, ◌∙◌, ne_eqb}
+use Rattle.std.specs.Prelude.{◌≡◌, ℕ, Bool, cond, ◌||◌, List, ◌==◌, ◌≢◌}
+use Rattle.std.proofs.Common.{ne_eqb}
 use Rattle.lists.specs.Below.{any_below}
-use Rattle.domain.specs.Refusals.{when, or_else}
-use Rattle.domain.specs.Laws.{or_else_second}
-use Rattle.sheet.specs.Sheets.{sheet_refusal}
-use Rattle.file_read.specs.Form.{right_shape}
+use Rattle.domain.specs.Refusals.{when}
 use Rattle.file_read.specs.Reading.{sheet_of, refusal_of}
 use Rattle.file_read.specs.Refusal.{sheet_sound}
 use Rattle.fill_thousand.specs.declared.Filled.{Filled}

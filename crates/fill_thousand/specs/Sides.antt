@@ -1,7 +1,7 @@
 -- The whole number that a length is. RULES: Fill per thousand
-use Rattle.std.specs.Prelude.{ℕ, cond, ◌&&◌, from_bits, Float}
+use Rattle.std.specs.Prelude.{ℕ, cond, ◌&&◌, Float}
 use Rattle.std.specs.Float.{binary64}
-use Rattle.std.specs.Float.Ieee.{le, eq, to_unsigned}
+use Rattle.std.specs.Float.Ieee.{of_bits, le, eq, to_unsigned}
 use Rattle.floats.specs.Whole.{whole}
 
 -- the longest side that counts
@@ -10,10 +10,10 @@ most_side = 10000
 
 -- 1 and 10,000
 abbrev pub shortest : Float
-shortest = from_bits binary64 0x3FF0000000000000
+shortest = of_bits binary64 0x3FF0000000000000
 
 abbrev pub longest : Float
-longest = from_bits binary64 0x40C3880000000000
+longest = of_bits binary64 0x40C3880000000000
 
 -- a number with its fraction dropped
 abbrev pub cut : Float → ℕ

@@ -1,6 +1,6 @@
 -- The ids and volumes of a sheet's kinds in two columns, and a line's volume by them.
-use Rattle.std.specs.Prelude.{◌≡◌, ℕ, zero, suc, ◌+◌, ◌*◌, ◌<◌, ◌≤◌, Bool, true, false, List, length, replicate, ◌==◌, slice_index, refl}
-use Rattle.std.proofs.Common.{sym, ◌∙◌, zero-le, arith}
+use Rattle.std.specs.Prelude.{◌≡◌, ℕ, ◌<◌, ◌≤◌, Bool, List, length, replicate, ◌==◌, slice_index}
+use Rattle.std.proofs.Common.{arith}
 use Rattle.std.proofs.lemmas.List.{length-replicate}
 use Rattle.domain.specs.Bounds.{most_kinds}
 use Rattle.lists.specs.Below.{any_below, sum_below, sum_same}

@@ -1,5 +1,5 @@
 -- Binary64's operations under short names, and vectors of three.
-use Rattle.std.specs.Prelude.{Bool, cond, List, [], ◌∷◌, ℕ, get_or, Float}
+use Rattle.std.specs.Prelude.{cond, List, [], ◌∷◌, get_or, Float}
 use Rattle.std.specs.Float.Ieee as Ieee
 use Rattle.std.specs.Float.{nan, binary64}
 use Rattle.std.specs.Float.Ieee.{of_bits, lt}

@@ -1,5 +1,5 @@
 -- The order of the floats: `le` is transitive on all of them, and on those that are no NaN `lt` is its negation the other way round.
-use Rattle.std.specs.Prelude.{◌≡◌, refl, ℕ, zero, suc, ◌+◌, ◌-◌, ◌*◌, ◌^◌, Bool, true, false, not, ◌||◌, cond, T, ltb, Float}
+use Rattle.std.specs.Prelude.{◌≡◌, refl, ℕ, zero, suc, ◌+◌, ◌*◌, ◌^◌, Bool, true, false, not, ◌||◌, cond, T, ltb, Float}
 use Rattle.std.proofs.Common.{sym, subst, true≢false, arith}
 use Rattle.std.specs.Float.{nan, inf, fin, Format}
 use Rattle.std.specs.Float.Ieee.{of_bits, prec, emax, low, up, down, odd, units, round, lt, le, eq, is_nan}

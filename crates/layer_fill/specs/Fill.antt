@@ -1,6 +1,6 @@
 -- The state of the second placer, the fill by layers, with its placements (packing_utils.rs, `LayerFill`), refusals included. The fill per thousand of a
 -- load file is another thing: `fill_thousand`.
-use Rattle.std.specs.Prelude.{◌≡◌, refl, Bool, true, false, cond, List, [], ◌∷◌, ℕ, ◌+◌, ◌<◌, eqb, ltb, set, replicate}
+use Rattle.std.specs.Prelude.{◌≡◌, Bool, true, false, cond, List, ℕ, ◌+◌, ◌<◌, eqb, ltb, set, replicate}
 use Rattle.std.proofs.Common.{arith, ltb-false}
 use Rattle.std.proofs.lemmas.Bool.{eqb-false}
 use Rattle.floats.specs.Ops.{none}
@@ -12,7 +12,6 @@ use Rattle.measures.specs.declared.Kind.{Kind}
 use Rattle.measures.specs.Faults.{kind_fault, container_fault}
 use Rattle.sheet.specs.declared.Line.{Line}
 pub use Rattle.sheet.specs.Sheets.{blank_line}
-use Rattle.layer_state.specs.declared.stand.Stand.{Stand}
 use Rattle.layer_state.specs.declared.stand.Step.{Step}
 use Rattle.layer_fill.specs.declared.LayerFill.{LayerFill}
 use Rattle.layer_fill.specs.declared.Opening.{Opening}

@@ -1,7 +1,7 @@
 -- RULES: Second placer: items. The instance list of an order (packing_utils.rs, `build_instances`): a record of three words for each box, in the order of
 -- the turns.
-use Rattle.std.specs.Prelude.{◌≡◌, refl, cond, ◌||◌, List, [], ◌∷◌, ℕ, suc, ◌+◌, ◌*◌, ◌/◌, ◌<◌, ◌≤◌, eqb, ltb, length, get_or, set}
-use Rattle.std.proofs.Common.{sym, ◌∙◌, arith, eq-eqb, ne_eqb, lt-ltb, le-ltb}
+use Rattle.std.specs.Prelude.{◌≡◌, refl, cond, ◌||◌, List, [], ◌∷◌, ℕ, suc, ◌+◌, ◌/◌, ◌<◌, ◌≤◌, eqb, ltb, length, get_or, set}
+use Rattle.std.proofs.Common.{arith, ne_eqb, lt-ltb, le-ltb}
 use Rattle.std.proofs.lemmas.List.Edits.{sets}
 use Rattle.domain.specs.Refusals.{when, or_else}
 use Rattle.measures.specs.declared.Kind.{Kind}
@@ -11,9 +11,7 @@ use Rattle.sheet.specs.Sheets.{no_kind, boxes_in, sheet_refusal}
 use Rattle.lists.specs.Rows.{wrote}
 use Rattle.file_read.specs.Form.{right_shape}
 use Rattle.file_read.specs.Reading.{sheet_of, refusal_of}
-use Rattle.file_read.specs.Refusal.{sheet_decides, sheet_sound}
-use Rattle.file_accept.specs.Accept.{readable}
-use Rattle.file_read.specs.Records.{Readable}
+use Rattle.file_read.specs.Refusal.{sheet_sound}
 use Rattle.layer_instances.specs.declared.Built.{Built}
 use Rattle.plan_boxes.specs.Turns.{turn_of}
 

@@ -1,7 +1,7 @@
 -- RULES: Second placer: best orientation. `place_best` takes the orientation of least score among those that fit, and of equal scores the first.
 -- So it is in every fill that was opened on an accepted container, whatever was offered to it since: a cursor there is nowhere negative and no
 -- NaN, so each score is a number.
-use Rattle.std.specs.Prelude.{◌≡◌, refl, Bool, true, false, cond, List, [], ◌∷◌, ℕ, zero, suc, ◌*◌, ◌<◌, eqb, ltb, length, get_or, set, Float}
+use Rattle.std.specs.Prelude.{◌≡◌, refl, Bool, true, false, List, [], ◌∷◌, ℕ, zero, suc, ◌*◌, ◌<◌, eqb, ltb, length, get_or, set, Float}
 use Rattle.std.proofs.Common.{sym, ◌∙◌, ap, true≢false, arith, ne_eqb, get_or-set_same}
 use Rattle.std.specs.Float.{Format, nan, inf, fin, binary64}
 use Rattle.std.specs.Float.Ieee.{up, down, of_bits, mul, lt}
@@ -20,17 +20,17 @@ use Rattle.measures.specs.Orders.{share_of, lengths_in}
 use Rattle.measures.specs.Faults.{measure_fault, kind_fault, container_fault}
 use Rattle.layer_cursor.specs.declared.LayerCursor.{LayerCursor}
 use Rattle.layer_cursor.specs.declared.LayerSpot.{LayerSpot}
-use Rattle.layer_cursor.specs.Spot.{over, turn_to, no_spot, spot_at, spot_of}
+use Rattle.layer_cursor.specs.Spot.{over, turn_to, spot_of}
 use Rattle.layer_state.specs.declared.stand.Stand.{Stand}
 use Rattle.layer_state.specs.declared.stand.Step.{Step}
-use Rattle.layer_state.specs.Stand.{mass_allows, spot_in, no_step, settled, turned_of, place_of}
+use Rattle.layer_state.specs.Stand.{mass_allows, spot_in, settled, turned_of, place_of}
 use Rattle.layer_state.specs.Best.{million, thousand, tenth, score_of, best_for, place_best_of}
 use Rattle.sheet.specs.declared.Line.{Line}
 use Rattle.layer_fill.specs.declared.LayerFill.{LayerFill}
 use Rattle.layer_fill.specs.declared.Placing.{Placing}
 use Rattle.layer_fill.specs.Fill.{blank_line, opened, line_of, pushed, place_refusal, answered, placed_best, room}
-use Rattle.layer_lent.specs.Follows.{Offer, turned, best, answer_to, fill_after, Fair, fair_opened, Answers, answers, answer_cases}
-use Rattle.plan_laws.specs.Spots.{Lengths, lengths_in_lem, kind_measures, Sized, sized, not_negative}
+use Rattle.layer_lent.specs.Follows.{Offer, turned, best, answer_to, fill_after, Fair, fair_opened, answers, answer_cases}
+use Rattle.plan_laws.specs.Spots.{lengths_in_lem, kind_measures, Sized, sized, not_negative}
 use Rattle.plan_laws.specs.Layers.{Ahead, Right, Kept, none_signed, turn_ahead, none_kept, turned_kept, best_kept}
 use Rattle.layer_laws.specs.Least as Least
 

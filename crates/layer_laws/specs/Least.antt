@@ -5,13 +5,12 @@ use Rattle.std.proofs.Math.Bool.{true, false, cond}
 use Prim.Native.Nat.{ℕ, zero, suc, ◌<◌}
 use Rattle.std.specs.Float.Ieee.{lt}
 use Rattle.floats.specs.Ops.{z}
-use Rattle.floats.specs.Weak.{Number, Weak, lt_weak, true_false}
+use Rattle.floats.specs.Weak.{Number, lt_weak, true_false}
 use Rattle.lists.specs.Below.{upto}
 use Rattle.measures.specs.declared.Container.{Container}
 use Rattle.measures.specs.declared.Kind.{Kind}
 use Rattle.measures.specs.Orders.{lengths_in}
 use Rattle.layer_cursor.specs.declared.LayerCursor.{LayerCursor}
-use Rattle.layer_cursor.specs.declared.LayerSpot.{LayerSpot}
 use Rattle.layer_cursor.specs.Spot.{spot_of}
 use Rattle.layer_state.specs.Best.{score_of, better, best_of}
 

@@ -1,9 +1,8 @@
 -- `reproduces` at work: two boxes of 6×2×4, any way up, into a container of 4×2×6. One fits, in orientation 5, and the other in none; placed again by the
 -- orientations that the plan gave them, they make the same plan.
-use Rattle.std.specs.Prelude.{◌≡◌, refl, Bool, List, [], ◌∷◌, ℕ, zero, suc, ◌+◌, ◌*◌, ◌<◌, get_or, set, replicate}
+use Rattle.std.specs.Prelude.{◌≡◌, refl, List, [], ◌∷◌, ℕ, zero, suc, ◌+◌, ◌*◌, ◌<◌, get_or, set, replicate}
 use Rattle.std.proofs.Common.{sym, le_refl, arith}
 use Rattle.std.specs.Int.Count.{count_trailing_zeros}
-use Rattle.std.specs.Float.{binary64}
 use Rattle.std.specs.Float.Ieee.{lt, le, add, sub, mul, sum, round, units, odd, size, of_bits, to_bits, of_fields, of_int, span, climb}
 use Rattle.floats.specs.Ops.{none}
 use Rattle.floats.specs.Whole.{whole}
@@ -13,7 +12,7 @@ use Rattle.domain.specs.Refusals.{or_else, first_below}
 use Rattle.measures.specs.Orders.{lengths_in}
 use Rattle.measures.specs.Faults.{kind_fault, container_fault}
 use Rattle.sheet.specs.declared.Sheet.{Sheet}
-use Rattle.sheet.specs.Sheets.{blank_kind, blank_line, same_id, kind_fault_in, quantity_of, boxes_in, line_fault, line_fault_in, sheet_refusal}
+use Rattle.sheet.specs.Sheets.{blank_kind, blank_line, same_id, kind_fault_in, quantity_of, boxes_in, line_fault_in, sheet_refusal}
 use Rattle.layer_cursor.specs.Spot.{new_row, new_layer, spot_of}
 use Rattle.layer_state.specs.Stand.{settled}
 use Rattle.layer_state.specs.Best.{better, best_of, place_best_of}

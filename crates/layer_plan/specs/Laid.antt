@@ -1,6 +1,6 @@
 -- RULES: Plans. What the plan of a fill holds, and how a call that lays it into columns ends.
 use Rattle.std.specs.Prelude.{◌≡◌, List, ℕ, ◌≤◌}
-use Rattle.std.proofs.Common.{sym, ap, ◌∙◌, arith, eq-eqb, ne_eqb}
+use Rattle.std.proofs.Common.{sym, ap, ◌∙◌, arith, eq-eqb}
 use Rattle.domain.specs.Bounds.{most_kinds, most_lines}
 use Rattle.measures.specs.declared.Kind.{Kind}
 use Rattle.sheet.specs.declared.Line.{Line}
@@ -12,7 +12,7 @@ use Rattle.file_read.specs.Refusal.{sheet_sound}
 use Rattle.plan_unplaced.specs.Left.{by_fair}
 use Rattle.plan_sheet.specs.declared.Told.{Told}
 use Rattle.plan_sheet.specs.Boxes.{smaller}
-use Rattle.plan_sheet.specs.Plans.{Plan, refused_plan, left_by, planned_of}
+use Rattle.plan_sheet.specs.Plans.{Plan, left_by, planned_of}
 use Rattle.plan_sheet.specs.Laid.{plan_in, told_of, laid}
 use Rattle.layer_state.specs.declared.stand.Stand.{Stand}
 use Rattle.layer_state.specs.Stand.{fill_of}

@@ -1,19 +1,18 @@
 -- RULES: Second placer: items. The orientation of each instance of a list in a sheet's lines (packing_utils.rs, `seed_orientations`).
 use Rattle.std.specs.Prelude.{◌≡◌, refl, Bool, true, false, cond, ◌&&◌, List, ℕ, zero, suc, ◌+◌, ◌*◌, ◌<◌, ◌≤◌, eqb, ltb, length, get_or}
-use Rattle.std.proofs.Common.{sym, ◌∙◌, ap, arith}
-use borrow.Author.Tests.{eq-eqb, ne_eqb, lt-ltb, le-ltb}
+use Rattle.std.proofs.Common.{sym, ◌∙◌, arith}
+use borrow.Author.Tests.{ne_eqb, lt-ltb, le-ltb}
 use Rattle.domain.specs.Bounds.{most_instances}
 use Rattle.domain.specs.Refusals.{when, or_else}
 use Rattle.lists.specs.Below.{any_below, any_none}
 use Rattle.lists.specs.Table.{filled}
-use Rattle.sheet.specs.declared.Counts.{Counts}
 use Rattle.sheet.specs.declared.Line.{Line}
 use Rattle.sheet.specs.declared.Sheet.{Sheet}
 use Rattle.sheet.specs.Sheets.{no_line, kind_at, sheet_refusal}
 use Rattle.file_read.specs.Form.{right_shape, lines_start, counts_of}
 use Rattle.file_read.specs.Reading.{sheet_of, refusal_of}
 use Rattle.file_read.specs.Refusal.{shape_refused, sheet_decides, sheet_sound}
-use Rattle.file_read.specs.Records.{Readable, many_is}
+use Rattle.file_read.specs.Records.{Readable}
 use Rattle.file_accept.specs.declared.Accepted.{Accepted}
 use Rattle.file_accept.specs.Accept.{Taken}
 use Rattle.layer_instances.specs.declared.Built.{Built}

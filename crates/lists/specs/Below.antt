@@ -1,6 +1,6 @@
 -- What is gathered from 0 up to a bound: whether a test holds somewhere, words one after the other, sums.
-use Rattle.std.specs.Prelude.{◌≡◌, refl, Bool, true, false, ◌||◌, List, [], ◌++◌, ℕ, zero, suc, ◌+◌, ◌<◌, ◌≤◌, eqb, get_or}
-use Rattle.std.proofs.Common.{◌∙◌, ap, ⊎_elim, eq-or-lt_of_le, le_of_suc-le-suc, not-suc-le-zero, le_refl, arith}
+use Rattle.std.specs.Prelude.{◌≡◌, refl, Bool, false, ◌||◌, List, [], ◌++◌, ℕ, zero, suc, ◌+◌, ◌<◌, eqb, get_or}
+use Rattle.std.proofs.Common.{ap, ⊎_elim, eq-or-lt_of_le, le_of_suc-le-suc, not-suc-le-zero, le_refl, arith}
 use Rattle.lists.specs.Bools.{or_left, or_right}
 
 -- whether the test holds somewhere below n

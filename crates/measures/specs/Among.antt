@@ -1,9 +1,9 @@
 -- The lengths in all six axis orders, and an orientation's among them.
-use Rattle.std.specs.Prelude.{◌≡◌, refl, Bool, true, false, cond, List, [], ◌∷◌, ◌++◌, ℕ, zero, suc, ◌+◌, ◌*◌, ◌<◌, ltb, length, get_or, Float}
+use Rattle.std.specs.Prelude.{◌≡◌, refl, cond, List, [], ◌∷◌, ◌++◌, ℕ, zero, suc, ◌+◌, ◌*◌, ◌<◌, ltb, length, get_or, Float}
 use Rattle.std.proofs.Common.{arith}
 use Rattle.std.specs.Float.{nan}
 use Rattle.measures.specs.declared.Kind.{Kind}
-use Rattle.measures.specs.Orders.{orders, share_of, order_at, turned, lengths_in}
+use Rattle.measures.specs.Orders.{orders, share_of, turned, lengths_in}
 
 -- row by row of the table
 abbrev pub all_turned : List Float → List Float

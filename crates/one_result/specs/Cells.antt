@@ -14,25 +14,25 @@ pub wrote_one : {o : List ℕ} {at : ℕ} {ws : List ℕ} {r s : ℕ} {x y : Lis
 wrote_one p q = (p.next ∙ sym q.next, p.cells ∙ sym q.cells)
 
 -- within the most cells the words are written, past them none
-given_one : (o : List ℕ) (at : ℕ) (ws : List ℕ) (r s : ℕ) (x y : List ℕ) → (r ≡ s) × (x ≡ y)
-given_one o at ws r s x y = go (ltb at most_words) refl
+given_one : (o : List ℕ) (at : ℕ) (ws : List ℕ) (r s : ℕ) (x y : List ℕ) → Given o at ws r x → Given o at ws s y → (r ≡ s) × (x ≡ y)
+given_one o at ws r s x y p q = go (ltb at most_words) refl
   where
     go : (b : Bool) → ltb at most_words ≡ b → (r ≡ s) × (x ≡ y)
-    go true e = let h = ltb-true at most_words e in wrote_one (𝓛.within h) (𝓛.within h)
-    go false e = let h = ltb-false at most_words e in wrote_one (𝓛.past h) (𝓛.past h)
+    go true e = let h = ltb-true at most_words e in wrote_one (p.within h) (q.within h)
+    go false e = let h = ltb-false at most_words e in wrote_one (p.past h) (q.past h)
 
 module _ {M : Type 1} (𝓤 : Ura M) (w : World 𝓤) where
-  pub put_if_one : (κs : _) (args : _) → Settles 𝓤 (put_if.clauses 𝓤 w.heap w.atoms w.mem w.run κs args) (λ e. e.0.now)
+  pub put_if_one : (κs : _) (args : _) → Settles 𝓤 (put_if.clauses w.𝓛 w.mem w.run κs args) (λ e. e.0.now)
   put_if_one κs args =
       let at = args.1.0 in
       let v = args.1.1.1 in
       let words = only_if args.1.1.0 (v.0 ∷ v.1.0 ∷ v.1.1.0 ∷ v.1.1.1.0 ∷ v.1.1.1.1.0 ∷ []) in
       told 𝓤 _ _ (λ r x. Given args.0.now at words r x) (λ _. refl) (λ _ _ _. refl)
-      (λ r s x y p q. given_one args.0.now at words r s x y)
+      (λ r s x y p q. given_one args.0.now at words r s x y p q)
 
-  pub box_of_one : (κs : _) (args : _) → Settles 𝓤 (box_of.clauses 𝓤 w.heap w.atoms w.mem w.run κs args) nothing
+  pub box_of_one : (κs : _) (args : _) → Settles 𝓤 (box_of.clauses w.𝓛 w.mem w.run κs args) nothing
   box_of_one κs args = plain 𝓤 _ _ (λ _. refl) (λ _ _ _. refl)
 
-  pub put_box_one : (κs : _) (args : _) → Settles 𝓤 (put-box.clauses 𝓤 w.heap w.atoms w.mem w.run κs args) (λ e. e.0.now)
+  pub put_box_one : (κs : _) (args : _) → Settles 𝓤 (put-box.clauses w.𝓛 w.mem w.run κs args) (λ e. e.0.now)
   put_box_one κs args =
       told 𝓤 _ _ (λ r x. x ≡ box_in args.0.now args.1.0 args.1.1.0) (λ _. refl) (λ _ _ _. refl) (λ r s x y p q. (refl, p ∙ sym q))

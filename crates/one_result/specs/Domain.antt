@@ -11,23 +11,23 @@ use Rattle.domain.specs.contracts.or_else as or_else
 use Rattle.domain.specs.contracts.place_within as place-within
 
 module _ {M : Type 1} (𝓤 : Ura M) (w : World 𝓤) where
-  pub is_length_one : (κs : _) (args : _) → Settles 𝓤 (is-length.clauses 𝓤 w.heap w.atoms w.mem w.run κs args) nothing
+  pub is_length_one : (κs : _) (args : _) → Settles 𝓤 (is-length.clauses w.𝓛 w.mem w.run κs args) nothing
   is_length_one κs args = plain 𝓤 _ _ (λ _. refl) (λ _ _ _. refl)
 
-  pub is_measure_one : (κs : _) (args : _) → Settles 𝓤 (is-measure.clauses 𝓤 w.heap w.atoms w.mem w.run κs args) nothing
+  pub is_measure_one : (κs : _) (args : _) → Settles 𝓤 (is-measure.clauses w.𝓛 w.mem w.run κs args) nothing
   is_measure_one κs args = plain 𝓤 _ _ (λ _. refl) (λ _ _ _. refl)
 
-  pub is_limit_one : (κs : _) (args : _) → Settles 𝓤 (is-limit.clauses 𝓤 w.heap w.atoms w.mem w.run κs args) nothing
+  pub is_limit_one : (κs : _) (args : _) → Settles 𝓤 (is-limit.clauses w.𝓛 w.mem w.run κs args) nothing
   is_limit_one κs args = plain 𝓤 _ _ (λ _. refl) (λ _ _ _. refl)
 
-  pub is_position_one : (κs : _) (args : _) → Settles 𝓤 (is-position.clauses 𝓤 w.heap w.atoms w.mem w.run κs args) nothing
+  pub is_position_one : (κs : _) (args : _) → Settles 𝓤 (is-position.clauses w.𝓛 w.mem w.run κs args) nothing
   is_position_one κs args = plain 𝓤 _ _ (λ _. refl) (λ _ _ _. refl)
 
-  pub given_one : (κs : _) (args : _) → Settles 𝓤 (given.clauses 𝓤 w.heap w.atoms w.mem w.run κs args) nothing
+  pub given_one : (κs : _) (args : _) → Settles 𝓤 (given.clauses w.𝓛 w.mem w.run κs args) nothing
   given_one κs args = plain 𝓤 _ _ (λ _. refl) (λ _ _ _. refl)
 
-  pub or_else_one : (κs : _) (args : _) → Settles 𝓤 (or_else.clauses 𝓤 w.heap w.atoms w.mem w.run κs args) nothing
+  pub or_else_one : (κs : _) (args : _) → Settles 𝓤 (or_else.clauses w.𝓛 w.mem w.run κs args) nothing
   or_else_one κs args = plain 𝓤 _ _ (λ _. refl) (λ _ _ _. refl)
 
-  pub place_within_one : (κs : _) (args : _) → Settles 𝓤 (place-within.clauses 𝓤 w.heap w.atoms w.mem w.run κs args) nothing
+  pub place_within_one : (κs : _) (args : _) → Settles 𝓤 (place-within.clauses w.𝓛 w.mem w.run κs args) nothing
   place_within_one κs args = bounded 𝓤 _ _ _ (λ _. refl) (λ _ _ _. refl)

@@ -1,6 +1,6 @@
 -- The public calls of the crate check_list: each contract settles its call.
-use Rattle.std.specs.Prelude.{◌≡◌, refl, Bool, true, false, List, [], ℕ, ◌+◌, ltb}
-use Rattle.std.proofs.Common.{sym, ◌∙◌, ltb-true, ltb-false}
+use Rattle.std.specs.Prelude.{◌≡◌, refl, Bool, true, false, List, ℕ, ◌+◌, ltb}
+use Rattle.std.proofs.Common.{ltb-true, ltb-false}
 use seplogic.Ra.Ura.{Ura}
 use Rattle.check_list.specs.View.{fair}
 use Rattle.check_list.specs.Held.{held, kinds_in, LinesRan, Followed, most_line_words}
@@ -18,7 +18,7 @@ followed_one o at most ws r s x y p q = go (ltb most_line_words at) refl
     go false e = let h = ltb-false most_line_words at e in wrote_one (p.within h).words (q.within h).words
 
 module _ {M : Type 1} (𝓤 : Ura M) (w : World 𝓤) where
-  pub line_findings_one : (κs : _) (args : _) → Settles 𝓤 (line-findings.clauses 𝓤 w.heap w.atoms w.mem w.run κs args) (λ e. e.0.now)
+  pub line_findings_one : (κs : _) (args : _) → Settles 𝓤 (line-findings.clauses w.𝓛 w.mem w.run κs args) (λ e. e.0.now)
   line_findings_one κs args =
       let f = args.1.0.now in
       let start = args.1.1.0 in
@@ -30,7 +30,7 @@ module _ {M : Type 1} (𝓤 : Ura M) (w : World 𝓤) where
       (λ _. refl) (λ _ _ _. refl)
       (λ r s a b p q. wrote_one p.words q.words)
 
-  pub kind_findings_one : (κs : _) (args : _) → Settles 𝓤 (kind-findings.clauses 𝓤 w.heap w.atoms w.mem w.run κs args) (λ e. e.0.now)
+  pub kind_findings_one : (κs : _) (args : _) → Settles 𝓤 (kind-findings.clauses w.𝓛 w.mem w.run κs args) (λ e. e.0.now)
   kind_findings_one κs args =
       let at = args.1.0 in
       let counts = args.1.1.0 in

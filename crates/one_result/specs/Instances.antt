@@ -10,16 +10,16 @@ use Rattle.layer_instances.specs.contracts.over_number as over-number
 use Rattle.layer_instances.specs.contracts.build_instances as build-instances
 
 module _ {M : Type 1} (𝓤 : Ura M) (w : World 𝓤) where
-  pub has_stranger_one : (κs : _) (args : _) → Settles 𝓤 (has-stranger.clauses 𝓤 w.heap w.atoms w.mem w.run κs args) nothing
+  pub has_stranger_one : (κs : _) (args : _) → Settles 𝓤 (has-stranger.clauses w.𝓛 w.mem w.run κs args) nothing
   has_stranger_one κs args = plain 𝓤 _ _ (λ _. refl) (λ _ _ _. refl)
 
-  pub answer_one : (κs : _) (args : _) → Settles 𝓤 (answer.clauses 𝓤 w.heap w.atoms w.mem w.run κs args) nothing
+  pub answer_one : (κs : _) (args : _) → Settles 𝓤 (answer.clauses w.𝓛 w.mem w.run κs args) nothing
   answer_one κs args = plain 𝓤 _ _ (λ _. refl) (λ _ _ _. refl)
 
-  pub over_number_one : (κs : _) (args : _) → Settles 𝓤 (over-number.clauses 𝓤 w.heap w.atoms w.mem w.run κs args) nothing
+  pub over_number_one : (κs : _) (args : _) → Settles 𝓤 (over-number.clauses w.𝓛 w.mem w.run κs args) nothing
   over_number_one κs args = plain 𝓤 _ _ (λ _. refl) (λ _ _ _. refl)
 
-  pub build_instances_one : (κs : _) (args : _) → Settles 𝓤 (build-instances.clauses 𝓤 w.heap w.atoms w.mem w.run κs args) (λ e. e.1.0.now)
+  pub build_instances_one : (κs : _) (args : _) → Settles 𝓤 (build-instances.clauses w.𝓛 w.mem w.run κs args) (λ e. e.1.0.now)
   build_instances_one κs args =
       told 𝓤 _ _ (λ r x. Ended _ _ r x) (λ _. refl) (λ _ _ _. refl)
       (λ r s x y p q. (p.answer_is ∙ sym q.answer_is, p.words_are ∙ sym q.words_are))

@@ -10,7 +10,7 @@ use Rattle.layer_plan.specs.contracts.lay_items as lay-items
 
 module _ {M : Type 1} (𝓤 : Ura M) (w : World 𝓤) where
   pub lay_layers_one : (κs : _) (args : _)
-      → Settles 𝓤 (lay-layers.clauses 𝓤 w.heap w.atoms w.mem w.run κs args)
+      → Settles 𝓤 (lay-layers.clauses w.𝓛 w.mem w.run κs args)
       (λ e.
       columns e.1.1.0.now e.1.1.1.0.now e.1.1.1.1.0.now e.1.1.1.1.1.0.now)
   lay_layers_one κs args =
@@ -18,7 +18,7 @@ module _ {M : Type 1} (𝓤 : Ura M) (w : World 𝓤) where
       (λ r s x y p q. (p.told_is ∙ sym q.told_is, p.columns_are ∙ sym q.columns_are))
 
   pub lay_items_one : (κs : _) (args : _)
-      → Settles 𝓤 (lay-items.clauses 𝓤 w.heap w.atoms w.mem w.run κs args)
+      → Settles 𝓤 (lay-items.clauses w.𝓛 w.mem w.run κs args)
       (λ e.
       columns e.1.1.1.1.0.now e.1.1.1.1.1.0.now e.1.1.1.1.1.1.0.now e.1.1.1.1.1.1.1.0.now)
   lay_items_one κs args =

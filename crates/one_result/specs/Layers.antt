@@ -10,20 +10,20 @@ use Rattle.layer_fill.specs.contracts.LayerFill.utilization as layer-fill-utiliz
 use Rattle.layer_fill.specs.contracts.LayerFill.finish as layer-fill-finish
 
 module _ {M : Type 1} (𝓤 : Ura M) (w : World 𝓤) where
-  pub layer_fill_new_one : (κs : _) (args : _) → Settles 𝓤 (layer-fill-new.clauses 𝓤 w.heap w.atoms w.mem w.run κs args) nothing
+  pub layer_fill_new_one : (κs : _) (args : _) → Settles 𝓤 (layer-fill-new.clauses w.𝓛 w.mem w.run κs args) nothing
   layer_fill_new_one κs args = plain 𝓤 _ _ (λ _. refl) (λ _ _ _. refl)
 
-  pub layer_fill_place_one : (κs : _) (args : _) → Settles 𝓤 (layer-fill-place.clauses 𝓤 w.heap w.atoms w.mem w.run κs args) nothing
+  pub layer_fill_place_one : (κs : _) (args : _) → Settles 𝓤 (layer-fill-place.clauses w.𝓛 w.mem w.run κs args) nothing
   layer_fill_place_one κs args = plain 𝓤 _ _ (λ _. refl) (λ _ _ _. refl)
 
-  pub layer_fill_place_best_one : (κs : _) (args : _) → Settles 𝓤 (layer-fill-place-best.clauses 𝓤 w.heap w.atoms w.mem w.run κs args) nothing
+  pub layer_fill_place_best_one : (κs : _) (args : _) → Settles 𝓤 (layer-fill-place-best.clauses w.𝓛 w.mem w.run κs args) nothing
   layer_fill_place_best_one κs args = plain 𝓤 _ _ (λ _. refl) (λ _ _ _. refl)
 
-  pub layer_fill_placed_one : (κs : _) (args : _) → Settles 𝓤 (layer-fill-placed.clauses 𝓤 w.heap w.atoms w.mem w.run κs args) nothing
+  pub layer_fill_placed_one : (κs : _) (args : _) → Settles 𝓤 (layer-fill-placed.clauses w.𝓛 w.mem w.run κs args) nothing
   layer_fill_placed_one κs args = plain 𝓤 _ _ (λ _. refl) (λ _ _ _. refl)
 
-  pub layer_fill_utilization_one : (κs : _) (args : _) → Settles 𝓤 (layer-fill-utilization.clauses 𝓤 w.heap w.atoms w.mem w.run κs args) nothing
+  pub layer_fill_utilization_one : (κs : _) (args : _) → Settles 𝓤 (layer-fill-utilization.clauses w.𝓛 w.mem w.run κs args) nothing
   layer_fill_utilization_one κs args = plain 𝓤 _ _ (λ _. refl) (λ _ _ _. refl)
 
-  pub layer_fill_finish_one : (κs : _) (args : _) → Settles 𝓤 (layer-fill-finish.clauses 𝓤 w.heap w.atoms w.mem w.run κs args) nothing
+  pub layer_fill_finish_one : (κs : _) (args : _) → Settles 𝓤 (layer-fill-finish.clauses w.𝓛 w.mem w.run κs args) nothing
   layer_fill_finish_one κs args = plain 𝓤 _ _ (λ _. refl) (λ _ _ _. refl)

@@ -12,27 +12,27 @@ use Rattle.measures.specs.contracts.container_fault as container-fault
 use Rattle.measures.specs.contracts.has_mass as has-mass
 
 module _ {M : Type 1} (𝓤 : Ura M) (w : World 𝓤) where
-  pub allowed_orientations_one : (κs : _) (args : _) → Settles 𝓤 (allowed-orientations.clauses 𝓤 w.heap w.atoms w.mem w.run κs args) nothing
+  pub allowed_orientations_one : (κs : _) (args : _) → Settles 𝓤 (allowed-orientations.clauses w.𝓛 w.mem w.run κs args) nothing
   allowed_orientations_one κs args = plain 𝓤 _ _ (λ _. refl) (λ _ _ _. refl)
 
   pub dimensions_for_orientation_one : (κs : _) (args : _)
-      → Settles 𝓤 (dimensions-for-orientation.clauses 𝓤 w.heap w.atoms w.mem w.run κs args) nothing
+      → Settles 𝓤 (dimensions-for-orientation.clauses w.𝓛 w.mem w.run κs args) nothing
   dimensions_for_orientation_one κs args = plain 𝓤 _ _ (λ _. refl) (λ _ _ _. refl)
 
-  pub all_turned_one : (κs : _) (args : _) → Settles 𝓤 (all_turned.clauses 𝓤 w.heap w.atoms w.mem w.run κs args) nothing
+  pub all_turned_one : (κs : _) (args : _) → Settles 𝓤 (all_turned.clauses w.𝓛 w.mem w.run κs args) nothing
   all_turned_one κs args = plain 𝓤 _ _ (λ _. refl) (λ _ _ _. refl)
 
-  pub dimensions_among_one : (κs : _) (args : _) → Settles 𝓤 (dimensions-among.clauses 𝓤 w.heap w.atoms w.mem w.run κs args) nothing
+  pub dimensions_among_one : (κs : _) (args : _) → Settles 𝓤 (dimensions-among.clauses w.𝓛 w.mem w.run κs args) nothing
   dimensions_among_one κs args = plain 𝓤 _ _ (λ _. refl) (λ _ _ _. refl)
 
-  pub measure_one : (κs : _) (args : _) → Settles 𝓤 (measure.clauses 𝓤 w.heap w.atoms w.mem w.run κs args) nothing
+  pub measure_one : (κs : _) (args : _) → Settles 𝓤 (measure.clauses w.𝓛 w.mem w.run κs args) nothing
   measure_one κs args = plain 𝓤 _ _ (λ _. refl) (λ _ _ _. refl)
 
-  pub kind_fault_one : (κs : _) (args : _) → Settles 𝓤 (kind-fault.clauses 𝓤 w.heap w.atoms w.mem w.run κs args) nothing
+  pub kind_fault_one : (κs : _) (args : _) → Settles 𝓤 (kind-fault.clauses w.𝓛 w.mem w.run κs args) nothing
   kind_fault_one κs args = plain 𝓤 _ _ (λ _. refl) (λ _ _ _. refl)
 
-  pub container_fault_one : (κs : _) (args : _) → Settles 𝓤 (container-fault.clauses 𝓤 w.heap w.atoms w.mem w.run κs args) nothing
+  pub container_fault_one : (κs : _) (args : _) → Settles 𝓤 (container-fault.clauses w.𝓛 w.mem w.run κs args) nothing
   container_fault_one κs args = plain 𝓤 _ _ (λ _. refl) (λ _ _ _. refl)
 
-  pub has_mass_one : (κs : _) (args : _) → Settles 𝓤 (has-mass.clauses 𝓤 w.heap w.atoms w.mem w.run κs args) nothing
+  pub has_mass_one : (κs : _) (args : _) → Settles 𝓤 (has-mass.clauses w.𝓛 w.mem w.run κs args) nothing
   has_mass_one κs args = plain 𝓤 _ _ (λ _. refl) (λ _ _ _. refl)

@@ -12,26 +12,26 @@ use Rattle.check_pair.specs.contracts.is_found as is_found
 use Rattle.check_pair.specs.contracts.is_spanned as is-spanned
 
 module _ {M : Type 1} (𝓤 : Ura M) (w : World 𝓤) where
-  pub tolerance_one : (κs : _) (args : _) → Settles 𝓤 (tolerance.clauses 𝓤 w.heap w.atoms w.mem w.run κs args) nothing
+  pub tolerance_one : (κs : _) (args : _) → Settles 𝓤 (tolerance.clauses w.𝓛 w.mem w.run κs args) nothing
   tolerance_one κs args = plain 𝓤 _ _ (λ _. refl) (λ _ _ _. refl)
 
-  pub judge_one : (κs : _) (args : _) → Settles 𝓤 (judge.clauses 𝓤 w.heap w.atoms w.mem w.run κs args) nothing
+  pub judge_one : (κs : _) (args : _) → Settles 𝓤 (judge.clauses w.𝓛 w.mem w.run κs args) nothing
   judge_one κs args = plain 𝓤 _ _ (λ _. refl) (λ _ _ _. refl)
 
-  pub hint_one : (κs : _) (args : _) → Settles 𝓤 (hint.clauses 𝓤 w.heap w.atoms w.mem w.run κs args) nothing
+  pub hint_one : (κs : _) (args : _) → Settles 𝓤 (hint.clauses w.𝓛 w.mem w.run κs args) nothing
   hint_one κs args = plain 𝓤 _ _ (λ _. refl) (λ _ _ _. refl)
 
-  pub limit_one : (κs : _) (args : _) → Settles 𝓤 (limit.clauses 𝓤 w.heap w.atoms w.mem w.run κs args) nothing
+  pub limit_one : (κs : _) (args : _) → Settles 𝓤 (limit.clauses w.𝓛 w.mem w.run κs args) nothing
   limit_one κs args = plain 𝓤 _ _ (λ _. refl) (λ _ _ _. refl)
 
-  pub is_far_one : (κs : _) (args : _) → Settles 𝓤 (is-far.clauses 𝓤 w.heap w.atoms w.mem w.run κs args) nothing
+  pub is_far_one : (κs : _) (args : _) → Settles 𝓤 (is-far.clauses w.𝓛 w.mem w.run κs args) nothing
   is_far_one κs args = plain 𝓤 _ _ (λ _. refl) (λ _ _ _. refl)
 
-  pub close_one : (κs : _) (args : _) → Settles 𝓤 (close.clauses 𝓤 w.heap w.atoms w.mem w.run κs args) nothing
+  pub close_one : (κs : _) (args : _) → Settles 𝓤 (close.clauses w.𝓛 w.mem w.run κs args) nothing
   close_one κs args = plain 𝓤 _ _ (λ _. refl) (λ _ _ _. refl)
 
-  pub is_found_one : (κs : _) (args : _) → Settles 𝓤 (is_found.clauses 𝓤 w.heap w.atoms w.mem w.run κs args) nothing
+  pub is_found_one : (κs : _) (args : _) → Settles 𝓤 (is_found.clauses w.𝓛 w.mem w.run κs args) nothing
   is_found_one κs args = plain 𝓤 _ _ (λ _. refl) (λ _ _ _. refl)
 
-  pub is_spanned_one : (κs : _) (args : _) → Settles 𝓤 (is-spanned.clauses 𝓤 w.heap w.atoms w.mem w.run κs args) nothing
+  pub is_spanned_one : (κs : _) (args : _) → Settles 𝓤 (is-spanned.clauses w.𝓛 w.mem w.run κs args) nothing
   is_spanned_one κs args = plain 𝓤 _ _ (λ _. refl) (λ _ _ _. refl)

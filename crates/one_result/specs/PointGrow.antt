@@ -10,7 +10,7 @@ use Rattle.point_grow.specs.contracts.put_box as put-box
 
 module _ {M : Type 1} (𝓤 : Ura M) (w : World 𝓤) where
   -- the points are lent
-  pub restock_one : (κs : _) (args : _) → Settles 𝓤 (restock.clauses 𝓤 w.heap w.atoms w.mem w.run κs args) (λ e. e.0.now)
+  pub restock_one : (κs : _) (args : _) → Settles 𝓤 (restock.clauses w.𝓛 w.mem w.run κs args) (λ e. e.0.now)
   restock_one κs args =
       let boxes = args.1.0.now in
       let c = args.1.1.0 in
@@ -21,7 +21,7 @@ module _ {M : Type 1} (𝓤 : Ura M) (w : World 𝓤) where
       told 𝓤 _ _ (λ r x. Stocked (restock_of c boxes held live args.0.now k size) r x) (λ _. refl) (λ _ _ _. refl)
       (λ r s x y p q. (p.live_is ∙ sym q.live_is, p.points_are ∙ sym q.points_are))
 
-  pub put_box_one : (κs : _) (args : _) → Settles 𝓤 (put-box.clauses 𝓤 w.heap w.atoms w.mem w.run κs args) (λ e. e.0.now)
+  pub put_box_one : (κs : _) (args : _) → Settles 𝓤 (put-box.clauses w.𝓛 w.mem w.run κs args) (λ e. e.0.now)
   put_box_one κs args =
       told 𝓤 _ _ (λ r x. x ≡ box_in args.0.now args.1.0 args.1.1.0 args.1.1.1.0)
       (λ _. refl) (λ _ _ _. refl) (λ r s x y p q. (refl, p ∙ sym q))

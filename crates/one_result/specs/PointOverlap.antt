@@ -6,8 +6,8 @@ use Rattle.point_overlap.specs.contracts.max_corner as max-corner
 use Rattle.point_overlap.specs.contracts.overlaps as overlaps
 
 module _ {M : Type 1} (𝓤 : Ura M) (w : World 𝓤) where
-  pub max_corner_one : (κs : _) (args : _) → Settles 𝓤 (max-corner.clauses 𝓤 w.heap w.atoms w.mem w.run κs args) nothing
+  pub max_corner_one : (κs : _) (args : _) → Settles 𝓤 (max-corner.clauses w.𝓛 w.mem w.run κs args) nothing
   max_corner_one κs args = plain 𝓤 _ _ (λ _. refl) (λ _ _ _. refl)
 
-  pub overlaps_one : (κs : _) (args : _) → Settles 𝓤 (overlaps.clauses 𝓤 w.heap w.atoms w.mem w.run κs args) nothing
+  pub overlaps_one : (κs : _) (args : _) → Settles 𝓤 (overlaps.clauses w.𝓛 w.mem w.run κs args) nothing
   overlaps_one κs args = plain 𝓤 _ _ (λ _. refl) (λ _ _ _. refl)

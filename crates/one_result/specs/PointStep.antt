@@ -21,7 +21,7 @@ same_stood r s p q l =
 module _ {M : Type 1} (𝓤 : Ura M) (w : World 𝓤) where
   -- four stores are lent
   pub step_one : (κs : _) (args : _)
-      → Settles 𝓤 (step.clauses 𝓤 w.heap w.atoms w.mem w.run κs args)
+      → Settles 𝓤 (step.clauses w.𝓛 w.mem w.run κs args)
       (pair_of (pair_of (λ e. e.0.now) (λ e. e.1.0.now)) (pair_of (λ e. e.1.1.0.now) (λ e. e.1.1.1.0.now)))
   step_one κs args =
       let s = stores args.0.now args.1.0.now args.1.1.0.now args.1.1.1.0.now in

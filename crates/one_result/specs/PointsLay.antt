@@ -9,7 +9,7 @@ use Rattle.point_run.specs.contracts.lay_points as lay-points
 
 module _ {M : Type 1} (𝓤 : Ura M) (w : World 𝓤) where
   pub lay_points_one : (κs : _) (args : _)
-      → Settles 𝓤 (lay-points.clauses 𝓤 w.heap w.atoms w.mem w.run κs args)
+      → Settles 𝓤 (lay-points.clauses w.𝓛 w.mem w.run κs args)
       (λ e.
       columns e.1.1.0.now e.1.1.1.0.now e.1.1.1.1.0.now e.1.1.1.1.1.0.now)
   lay_points_one κs args =

@@ -5,25 +5,25 @@ use Rattle.one_result.specs.Law.{World, Settles, nothing, plain}
 use Rattle.file_read.specs.contracts.read_sheet as read-sheet
 use Rattle.file_read.specs.contracts.records.sections_of as sections-of
 use Rattle.file_read.specs.contracts.records.container_in as container-in
-use Rattle.file_read.specs.contracts.records.kind_in as kind_in_lem
+use Rattle.file_read.specs.contracts.records.kind_in as kind_in
 use Rattle.file_read.specs.contracts.records.line_in as line-in
 use Rattle.file_read.specs.contracts.records.unplaced_in as unplaced-in
 
 module _ {M : Type 1} (𝓤 : Ura M) (w : World 𝓤) where
-  pub read_sheet_one : (κs : _) (args : _) → Settles 𝓤 (read-sheet.clauses 𝓤 w.heap w.atoms w.mem w.run κs args) nothing
+  pub read_sheet_one : (κs : _) (args : _) → Settles 𝓤 (read-sheet.clauses w.𝓛 w.mem w.run κs args) nothing
   read_sheet_one κs args = plain 𝓤 _ _ (λ _. refl) (λ _ _ _. refl)
 
-  pub sections_of_one : (κs : _) (args : _) → Settles 𝓤 (sections-of.clauses 𝓤 w.heap w.atoms w.mem w.run κs args) nothing
+  pub sections_of_one : (κs : _) (args : _) → Settles 𝓤 (sections-of.clauses w.𝓛 w.mem w.run κs args) nothing
   sections_of_one κs args = plain 𝓤 _ _ (λ _. refl) (λ _ _ _. refl)
 
-  pub container_in_one : (κs : _) (args : _) → Settles 𝓤 (container-in.clauses 𝓤 w.heap w.atoms w.mem w.run κs args) nothing
+  pub container_in_one : (κs : _) (args : _) → Settles 𝓤 (container-in.clauses w.𝓛 w.mem w.run κs args) nothing
   container_in_one κs args = plain 𝓤 _ _ (λ _. refl) (λ _ _ _. refl)
 
-  pub kind_in_one : (κs : _) (args : _) → Settles 𝓤 (kind_in_lem.clauses 𝓤 w.heap w.atoms w.mem w.run κs args) nothing
+  pub kind_in_one : (κs : _) (args : _) → Settles 𝓤 (kind_in.clauses w.𝓛 w.mem w.run κs args) nothing
   kind_in_one κs args = plain 𝓤 _ _ (λ _. refl) (λ _ _ _. refl)
 
-  pub line_in_one : (κs : _) (args : _) → Settles 𝓤 (line-in.clauses 𝓤 w.heap w.atoms w.mem w.run κs args) nothing
+  pub line_in_one : (κs : _) (args : _) → Settles 𝓤 (line-in.clauses w.𝓛 w.mem w.run κs args) nothing
   line_in_one κs args = plain 𝓤 _ _ (λ _. refl) (λ _ _ _. refl)
 
-  pub unplaced_in_one : (κs : _) (args : _) → Settles 𝓤 (unplaced-in.clauses 𝓤 w.heap w.atoms w.mem w.run κs args) nothing
+  pub unplaced_in_one : (κs : _) (args : _) → Settles 𝓤 (unplaced-in.clauses w.𝓛 w.mem w.run κs args) nothing
   unplaced_in_one κs args = plain 𝓤 _ _ (λ _. refl) (λ _ _ _. refl)

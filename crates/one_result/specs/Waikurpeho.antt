@@ -1,8 +1,8 @@
 -- The public calls of the crate waikurpeho: each contract settles its call.
-use Rattle.std.specs.Prelude.{◌≡◌, refl}
+use Rattle.std.specs.Prelude.{refl}
 use Rattle.std.proofs.Common.{sym, ◌∙◌, ap₂}
 use seplogic.Ra.Ura.{Ura}
-use Rattle.one_result.specs.Law.{World, Settles, lent, lent_two, pair_of, told}
+use Rattle.one_result.specs.Law.{World, Settles, lent, pair_of, told}
 use Rattle.point_run.specs.Runs.{ep_packing_of}
 use Rattle.layer_plan.specs.Fills.{layer_fill_of}
 use Rattle.plan_file.specs.Plan.{Answers}
@@ -12,22 +12,22 @@ use Rattle.waikurpeho.specs.contracts.wk_plan_layers as wk-plan-layers
 use Rattle.waikurpeho.specs.contracts.wk_fill as wk-fill
 
 module _ {M : Type 1} (𝓤 : Ura M) (w : World 𝓤) where
-  pub wk_check_one : (κs : _) (args : _) → Settles 𝓤 (wk-check.clauses 𝓤 w.heap w.atoms w.mem w.run κs args) (λ e. e.1.0.now)
+  pub wk_check_one : (κs : _) (args : _) → Settles 𝓤 (wk-check.clauses w.𝓛 w.mem w.run κs args) (λ e. e.1.0.now)
   wk_check_one κs args = lent 𝓤 _ _ _ _ (λ _. refl) (λ _ _ _. refl)
 
   pub wk_plan_points_one : (κs : _) (args : _)
-      → Settles 𝓤 (wk-plan-points.clauses 𝓤 w.heap w.atoms w.mem w.run κs args) (pair_of (λ e. e.1.1.0.now) (λ e. e.1.1.1.0.now))
+      → Settles 𝓤 (wk-plan-points.clauses w.𝓛 w.mem w.run κs args) (pair_of (λ e. e.1.1.0.now) (λ e. e.1.1.1.0.now))
   wk_plan_points_one κs args =
       told 𝓤 _ _ (λ r x. Answers ep_packing_of _ _ _ _ r x.0 x.1) (λ _. refl) (λ _ _ _. refl)
       (λ r s x y p q.
       (p.answer_is ∙ sym q.answer_is, ap₂ (λ a b. (a, b)) (p.bytes_are ∙ sym q.bytes_are) (p.figures_are ∙ sym q.figures_are)))
 
   pub wk_plan_layers_one : (κs : _) (args : _)
-      → Settles 𝓤 (wk-plan-layers.clauses 𝓤 w.heap w.atoms w.mem w.run κs args) (pair_of (λ e. e.1.1.0.now) (λ e. e.1.1.1.0.now))
+      → Settles 𝓤 (wk-plan-layers.clauses w.𝓛 w.mem w.run κs args) (pair_of (λ e. e.1.1.0.now) (λ e. e.1.1.1.0.now))
   wk_plan_layers_one κs args =
       told 𝓤 _ _ (λ r x. Answers layer_fill_of _ _ _ _ r x.0 x.1) (λ _. refl) (λ _ _ _. refl)
       (λ r s x y p q.
       (p.answer_is ∙ sym q.answer_is, ap₂ (λ a b. (a, b)) (p.bytes_are ∙ sym q.bytes_are) (p.figures_are ∙ sym q.figures_are)))
 
-  pub wk_fill_one : (κs : _) (args : _) → Settles 𝓤 (wk-fill.clauses 𝓤 w.heap w.atoms w.mem w.run κs args) (λ e. e.1.0.now)
+  pub wk_fill_one : (κs : _) (args : _) → Settles 𝓤 (wk-fill.clauses w.𝓛 w.mem w.run κs args) (λ e. e.1.0.now)
   wk_fill_one κs args = lent 𝓤 _ _ _ _ (λ _. refl) (λ _ _ _. refl)

@@ -9,12 +9,12 @@ use Rattle.file_write.specs.contracts.write_sheet as write-sheet
 use Rattle.file_write.specs.contracts.write_plan as write-plan
 
 module _ {M : Type 1} (𝓤 : Ura M) (w : World 𝓤) where
-  pub write_sheet_one : (κs : _) (args : _) → Settles 𝓤 (write-sheet.clauses 𝓤 w.heap w.atoms w.mem w.run κs args) (λ e. e.1.0.now)
+  pub write_sheet_one : (κs : _) (args : _) → Settles 𝓤 (write-sheet.clauses w.𝓛 w.mem w.run κs args) (λ e. e.1.0.now)
   write_sheet_one κs args = lent 𝓤 _ _ _ _ (λ _. refl) (λ _ _ _. refl)
 
   -- the last of ten is lent
   pub write_plan_one : (κs : _) (args : _)
-      → Settles 𝓤 (write-plan.clauses 𝓤 w.heap w.atoms w.mem w.run κs args) (λ e. e.1.1.1.1.1.1.1.1.1.0.now)
+      → Settles 𝓤 (write-plan.clauses w.𝓛 w.mem w.run κs args) (λ e. e.1.1.1.1.1.1.1.1.1.0.now)
   write_plan_one κs args =
       let c = args.1.1 in
       let d = c.1.1.1.1 in

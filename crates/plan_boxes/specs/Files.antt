@@ -1,11 +1,10 @@
 -- The boxes of the order in a load file, one after the other.
-use Rattle.std.specs.Prelude.{◌≡◌, refl, cond, List, ℕ, ◌+◌, ◌<◌, ◌≤◌, ltb, get_or}
-use Rattle.std.proofs.Common.{sym, ◌∙◌, ap, add-one, arith, le-ltb, lt-ltb}
+use Rattle.std.specs.Prelude.{◌≡◌, cond, List, ℕ, ◌+◌, ◌<◌, ◌≤◌, ltb, get_or}
+use Rattle.std.proofs.Common.{◌∙◌, ap, add-one, arith, le-ltb, lt-ltb}
 use Rattle.domain.specs.Bounds.{most_kinds, most_boxes}
 use Rattle.lists.specs.Below.{sum_below, sum_same}
 use Rattle.measures.specs.declared.Kind.{Kind}
 use Rattle.sheet.specs.declared.Counts.{Counts}
-use Rattle.sheet.specs.declared.Sheet.{Sheet}
 use Rattle.sheet.specs.Sheets.{no_kind, quantity_of, boxes_in}
 use Rattle.sheet.specs.Accepted.{Accepted}
 use Rattle.file_read.specs.Form.{counts_of}

@@ -1,6 +1,6 @@
 -- A plan that stands in columns, written as a load file from its order's bytes: the answer, the bytes and the figures, and that they are the
 -- planned sheet's. RULES: Plans, Boundary
-use Rattle.std.specs.Prelude.{◌≡◌, refl, Bool, cond, not, ◌||◌, ℕ, ◌<◌, ◌≤◌, ltb, leb, length, set}
+use Rattle.std.specs.Prelude.{◌≡◌, refl, Bool, cond, ◌||◌, ℕ, ◌<◌, ◌≤◌, ltb, leb, length, set}
 use Rattle.std.proofs.Math.Path.{sym, ap}
 use Rattle.std.proofs.Common.{◌∙◌, arith}
 use Rattle.std.proofs.Math.Bool.{true, false}
@@ -11,7 +11,6 @@ use Rattle.std.proofs.Math.ListN.{get_or}
 use Rattle.std.specs.Float.{binary64}
 use Rattle.std.specs.Float.Ieee.{to_bits}
 use Rattle.domain.specs.Bounds.{most_kinds, most_lines, most_unplaced}
-use Rattle.domain.specs.Refusals.{when}
 use Rattle.domain.specs.Laws.{or_else_first, or_else_second, when_none}
 use Rattle.lists.specs.Bools.{or_left, or_right}
 use Rattle.lists.specs.Table.{table_at}
@@ -19,7 +18,6 @@ use Rattle.sheet.specs.declared.Counts.{Counts}
 use Rattle.sheet.specs.declared.Sheet.{Sheet}
 use Rattle.sheet.specs.Sheets.{sheet_refusal}
 use Rattle.sheet.specs.Columns.{Columns, column_line}
-use Rattle.file_read.specs.Form.{right_shape}
 use Rattle.file_read.specs.Reading.{sheet_of, refusal_of, read_of}
 use Rattle.file_read.specs.Refusal.{sheet_sound}
 use Rattle.file_read.specs.Records.{sections_of, many_is}
@@ -43,7 +41,7 @@ use Rattle.plan_sheet.specs.Room.{fitting, Roomy}
 use Rattle.plan_laws.specs.Accepted.{Taken, Lists, points_accepted, points_lists, layers_accepted, layers_lists}
 use Rattle.plan_laws.specs.Laid as Laws
 use Rattle.plan_laws.specs.Laid.{laid_left, left_made, line_laid, sections_are}
-use Rattle.plan_laws.specs.Fits.{Modest, points_modest, layers_modest, Fits, fits_small, fits_long, long_room}
+use Rattle.plan_laws.specs.Fits.{Modest, points_modest, layers_modest, fits_small, fits_long, long_room}
 use Rattle.plan_laws.specs.Bins.{points_bins, layers_bins}
 use Rattle.point_run.specs.Runs.{ep_packing_of}
 use Rattle.layer_plan.specs.Fills.{layer_fill_of}

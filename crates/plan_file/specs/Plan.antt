@@ -1,10 +1,10 @@
 -- The plan calls: a load file is read as an order, planned, and the planned sheet written as form 1.
-use Rattle.std.specs.Prelude.{◌≡◌, Bool, true, false, cond, List, ℕ, eqb, length, set}
+use Rattle.std.specs.Prelude.{◌≡◌, cond, List, ℕ, eqb, length, set}
 use Rattle.std.specs.Float.{binary64}
 use Rattle.std.specs.Float.Ieee.{to_bits}
 use Rattle.sheet.specs.declared.Sheet.{Sheet}
 use Rattle.plan_sheet.specs.Plans.{Plan}
-use Rattle.plan_sheet.specs.Planned.{PlanSheet, sheet_from}
+use Rattle.plan_sheet.specs.Planned.{sheet_from}
 use Rattle.file_read.specs.Reading.{read_of}
 use Rattle.file_write.specs.Writing.{written_of, bytes_after}
 use Rattle.answer_word.specs.Answer.{answer_of}

@@ -1,12 +1,9 @@
 -- Of an order that is read, the boundary's plan calls refuse nothing but want of room.
-use Rattle.std.specs.Prelude.{◌≡◌, refl, Bool, true, false, not, cond, List, ℕ, leb}
-use Rattle.domain.specs.Refusals.{when}
-use Rattle.domain.specs.Laws.{or_else_second}
+use Rattle.std.specs.Prelude.{◌≡◌, refl, Bool, true, false, cond, List, ℕ, leb}
 use Rattle.sheet.specs.declared.Sheet.{Sheet}
 use Rattle.sheet.specs.Sheets.{sheet_refusal}
 use Rattle.file_write.specs.declared.Written.{Written}
-use Rattle.file_read.specs.Form.{right_shape}
-use Rattle.file_read.specs.Reading.{refusal_of, read_of}
+use Rattle.file_read.specs.Reading.{read_of}
 use Rattle.file_read.specs.Refusal.{sheet_sound}
 use Rattle.file_write.specs.Writing.{file_length, written_of}
 use Rattle.plan_sheet.specs.Plans.{Plan}

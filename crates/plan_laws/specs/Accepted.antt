@@ -1,5 +1,5 @@
 -- The planned sheet of an accepted order is accepted, by either placer and for every number of boxes to consider.
-use Rattle.std.specs.Prelude.{◌≡◌, refl, Bool, true, false, List, ℕ, zero, suc, ◌<◌, ◌≤◌, get_or, Float}
+use Rattle.std.specs.Prelude.{◌≡◌, refl, false, List, ℕ, zero, suc, ◌<◌, ◌≤◌, get_or, Float}
 use Rattle.std.proofs.Common.{◌∙◌, arith, le-ltb}
 use Rattle.domain.specs.Bounds.{most_kinds, most_boxes, most_lines, most_unplaced}
 use Rattle.domain.specs.Refusals.{or_else, first_below}
@@ -19,7 +19,7 @@ use Rattle.plan_sheet.specs.Planned.{widened, planned_sheet, sheet_from}
 use Rattle.point_stow.specs.Stow.{Stowed}
 use Rattle.point_state.specs.Fresh.{fresh_of}
 use Rattle.point_laws.specs.Reach.{start}
-use Rattle.lists.specs.Table.{table, table_at, filled}
+use Rattle.lists.specs.Table.{table, table_at}
 use Rattle.point_run.specs.Order.{falling_boxes}
 use Rattle.point_run.specs.Runs.{line_by, line_of, plan_from, run_of, ep_packing_of}
 use Rattle.point_laws.specs.Reached.{stow_reached}
@@ -162,8 +162,8 @@ turn_measures order a t l =
     (a.kind_sound (turn_of order.kinds t).kind r.kind_is).measures_right
 
 stow_accepted : (order : Sheet) (f : LayerFill) (n : ℕ) → sheet_refusal order ≡ 0 → InOrder order.container f → f.count ≤ most_lines
-    → Taken order (Fills.planFrom order.kinds order.many.kinds f n)
-unfolding Fills.planFrom
+    → Taken order (Fills.plan_from order.kinds order.many.kinds f n)
+unfolding Fills.plan_from
 stow_accepted order f n z o few =
     sheet_right order _ f.lines f.count z few
     (planned_holds order.kinds order.many.kinds f.lines f.count n _ (accepted order z).few_of.kinds few)
@@ -194,7 +194,7 @@ layers_accepted order consider z =
     (count_few order consider z))
 
 pub layers_lists : (order : Sheet) (consider : ℕ) → sheet_refusal order ≡ 0 → Lists order.kinds order.many.kinds (layer_fill_of order consider)
-unfolding layer_fill_of Fills.planFrom
+unfolding layer_fill_of Fills.plan_from
 layers_lists order consider z =
     let f = fill_to order consider in
     rw z
@@ -205,7 +205,7 @@ layers_lists order consider z =
 
 pub items_lists : (order : Sheet) (records items : List ℕ) (consider : ℕ) → items_refusal order records items ≡ 0
     → Lists order.kinds order.many.kinds (place_items_of order records items consider)
-unfolding place_items_of Fills.planFrom
+unfolding place_items_of Fills.plan_from
 items_lists order records items consider z =
     let r = items_right order records items z in
     let n = smaller consider (item_count items) in
@@ -228,7 +228,7 @@ points_lines order consider z =
     (accepted order z).few_of.kinds (held_few order consider z))
 
 pub layers_lines : (order : Sheet) (consider : ℕ) → sheet_refusal order ≡ 0 → (layer_fill_of order consider).lines ≡ (fill_to order consider).lines
-unfolding layer_fill_of Fills.planFrom
+unfolding layer_fill_of Fills.plan_from
 layers_lines order consider z =
     let f = fill_to order consider in
     rw z

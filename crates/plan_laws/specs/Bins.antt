@@ -1,15 +1,13 @@
 -- Every line of a plan stands in case 0, as there is one case. RULES: Plans
-use Rattle.std.specs.Prelude.{◌≡◌, refl, Bool, true, false, List, [], ◌∷◌, ℕ, zero, suc, ◌<◌, ◌≤◌, get_or, set, replicate}
-use Rattle.std.proofs.Common.{ap, arith}
+use Rattle.std.specs.Prelude.{◌≡◌, refl, List, [], ◌∷◌, ℕ, zero, suc, ◌<◌, get_or, set, replicate}
 use Rattle.domain.specs.Bounds.{most_boxes, most_lines}
 use Rattle.lists.specs.Bools.{cond_keeps}
-use Rattle.lists.specs.Table.{table, table_at}
+use Rattle.lists.specs.Table.{table_at}
 use Rattle.measures.specs.declared.Container.{Container}
 use Rattle.measures.specs.declared.Kind.{Kind}
 use Rattle.sheet.specs.declared.Line.{Line}
 use Rattle.sheet.specs.declared.Sheet.{Sheet}
 use Rattle.sheet.specs.Sheets.{no_kind, no_line, blank_line, sheet_refusal}
-use Rattle.sheet.specs.Accepted.{accepted}
 use Rattle.layer_fill.specs.declared.LayerFill.{LayerFill}
 use Rattle.layer_fill.specs.Fill.{no_lines, empty, line_of, took}
 use Rattle.layer_plan.specs.Run.{step_by, offered, run_from}

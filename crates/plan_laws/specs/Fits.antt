@@ -2,25 +2,22 @@
 -- that there may be have room for every plan, and columns with one for each box considered have one for each line.
 use Rattle.std.specs.Prelude.{◌≡◌, refl, Bool, true, false, cond, List, ℕ, ◌≤◌, eqb, Float}
 use Rattle.std.proofs.Common.{arith, eqb-true}
-use Rattle.std.proofs.lemmas.Bool.{eqb-false}
 use Rattle.domain.specs.Bounds.{most_lines}
 use Rattle.measures.specs.declared.Kind.{Kind}
 use Rattle.sheet.specs.declared.Line.{Line}
 use Rattle.sheet.specs.declared.Sheet.{Sheet}
-use Rattle.sheet.specs.Sheets.{boxes_in, sheet_refusal}
+use Rattle.sheet.specs.Sheets.{sheet_refusal}
 use Rattle.sheet.specs.Accepted.{accepted}
 use Rattle.sheet.specs.Columns.{Columns}
 use Rattle.file_read.specs.Form.{right_shape}
 use Rattle.file_read.specs.Reading.{sheet_of, refusal_of}
-use Rattle.plan_sheet.specs.declared.Told.{Told}
-use Rattle.plan_sheet.specs.Boxes.{smaller}
 use Rattle.plan_sheet.specs.Plans.{Plan, left_by, refused_plan, planned_of}
-use Rattle.plan_sheet.specs.Laid.{plan_in, Lays}
+use Rattle.plan_sheet.specs.Laid.{plan_in}
 use Rattle.plan_sheet.specs.Room.{has_room, fitting, Roomy, roomy, has_room_lem, roomy_less, fits_in, fits_not}
-use Rattle.point_run.specs.Runs.{plan_from, run_of, ep_packing_of}
-use Rattle.point_laws.specs.Told.{considers, run_by, placed_few}
+use Rattle.point_run.specs.Runs.{plan_from, ep_packing_of}
+use Rattle.point_laws.specs.Told.{considers, placed_few}
 use Rattle.layer_fill.specs.Fill.{empty}
-use Rattle.layer_plan.specs.Run.{run_from, run_few}
+use Rattle.layer_plan.specs.Run.{run_few}
 use Rattle.layer_plan.specs.Offers.{Offer, best_offer, item_offer, item_count}
 use Rattle.layer_plan.specs.Fills as Fills
 use Rattle.layer_plan.specs.Fills.{layer_fill_of, items_refusal, place_items_of, smaller_le, turns_few, items_right}
@@ -73,8 +70,8 @@ points_modest f consider =
     (λ z. planned_modest s.kinds s.many.kinds _ _ (considers s consider) _ (placed_few s consider z) (turns_few s (accepted s z) consider)))
 
 -- by layers, so many offers
-fill_modest : (s : Sheet) (offer : ℕ → Offer) (n : ℕ) → n ≤ most_lines → Modest (Fills.planBy s.container s.kinds s.many.kinds offer n)
-unfolding Fills.planFrom
+fill_modest : (s : Sheet) (offer : ℕ → Offer) (n : ℕ) → n ≤ most_lines → Modest (Fills.plan_by s.container s.kinds s.many.kinds offer n)
+unfolding Fills.plan_from
 fill_modest s offer n few =
     let c = run_few (empty s.container) s.kinds offer n in
     planned_modest s.kinds s.many.kinds _ _ n _ (omega arith) few

@@ -1,14 +1,13 @@
 -- A plan whose lines stand in columns: the lines, the plan, and its words.
-use Rattle.std.specs.Prelude.{◌≡◌, refl, not, List, [], ◌∷◌, ◌++◌, ℕ, zero, suc, ◌*◌, ◌<◌, ◌≤◌, length, get_or, drop}
-use Rattle.std.proofs.Common.{sym, ◌∙◌, ap}
+use Rattle.std.specs.Prelude.{◌≡◌, refl, not, List, ◌++◌, ℕ, zero, suc, ◌*◌, ◌≤◌, length, get_or, drop}
+use Rattle.std.proofs.Common.{sym, ap}
 use Rattle.domain.specs.Laws.{or_else_first, or_else_second, when_none}
 use Rattle.lists.specs.Bools.{not_true_of}
-use Rattle.lists.specs.Below.{all_below, all_same}
+use Rattle.lists.specs.Below.{all_same}
 use Rattle.lists.specs.Table.{table, table_at}
 use Rattle.lists.specs.Rows.{wrote}
 use Rattle.domain.specs.Bounds.{most_lines}
 use Rattle.domain.specs.Refusals.{when, or_else}
-use Rattle.sheet.specs.declared.Line.{Line}
 use Rattle.sheet.specs.Sheets.{no_line, blank_line}
 use Rattle.sheet.specs.Columns.{Columns, column_line}
 use Rattle.plan_unplaced.specs.declared.Left.{Left}

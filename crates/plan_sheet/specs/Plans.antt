@@ -1,5 +1,5 @@
 -- A plan: what it holds, and that of lines that were placed.
-use Rattle.std.specs.Prelude.{Bool, true, false, cond, ◌||◌, List, ℕ, eqb, ltb, replicate, Float}
+use Rattle.std.specs.Prelude.{cond, ◌||◌, List, ℕ, eqb, ltb, replicate, Float}
 use Rattle.floats.specs.Ops.{none}
 use Rattle.domain.specs.Bounds.{most_kinds, most_lines}
 use Rattle.domain.specs.Refusals.{when, or_else}

@@ -1,5 +1,5 @@
 -- An accepted order with other lines and unplaced ids in the place of its own: all that can be refused of it then is a line.
-use Rattle.std.specs.Prelude.{◌≡◌, ◌||◌, List, ℕ, ◌≤◌, ltb}
+use Rattle.std.specs.Prelude.{◌≡◌, List, ℕ, ◌≤◌, ltb}
 use Rattle.std.proofs.Common.{le-ltb}
 use Rattle.domain.specs.Bounds.{most_kinds, most_boxes, most_lines, most_unplaced}
 use Rattle.lists.specs.Below.{sum_below}

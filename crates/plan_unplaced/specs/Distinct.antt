@@ -1,8 +1,8 @@
 -- What one line more adds to the number of distinct instances placed.
-use Rattle.std.specs.Prelude.{◌≡◌, refl, Bool, not, ◌&&◌, ◌||◌, List, ℕ, zero, suc, ◌+◌, ◌<◌, ◌≤◌, ltb, get_or}
+use Rattle.std.specs.Prelude.{◌≡◌, refl, Bool, ◌&&◌, List, ℕ, zero, suc, ◌+◌, ◌<◌, ◌≤◌, ltb, get_or}
 use Rattle.std.proofs.Common.{sym, ◌∙◌, ⊎_elim, le_refl, eq-or-lt_of_le, le_of_suc-le-suc, arith}
 use Rattle.std.proofs.Math.Bool.{true, false}
-use borrow.Author.Tests.{ltb-true, ltb-false, lt-ltb, eqb-true, ne_eqb, eq-eqb}
+use borrow.Author.Tests.{ltb-true, ltb-false, ne_eqb, eq-eqb}
 use Rattle.std.proofs.Math.Dec.{eqb}
 use Rattle.lists.specs.Below.{any_below, sum_below}
 use Rattle.domain.specs.Refusals.{when}

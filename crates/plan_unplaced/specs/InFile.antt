@@ -1,5 +1,5 @@
 -- The kinds that bytes say, which for an accepted file are those of its sheet; and the unplaced list of a file.
-use Rattle.std.specs.Prelude.{◌≡◌, refl, cond, List, ℕ, ◌+◌, ◌<◌, ◌≤◌, eqb, length, get_or, set, replicate}
+use Rattle.std.specs.Prelude.{◌≡◌, cond, List, ℕ, ◌+◌, ◌<◌, ◌≤◌, eqb, length, get_or, set, replicate}
 use Rattle.std.proofs.Common.{sym, ◌∙◌, add-one, le_refl, arith, eq-eqb, ne_eqb}
 use Rattle.lists.specs.Table.{table, table_at, table_length, table_same, filled}
 use Rattle.domain.specs.Bounds.{most_kinds, most_lines}

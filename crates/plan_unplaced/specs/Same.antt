@@ -1,5 +1,5 @@
 -- The unplaced list goes by the first n lines alone: two pairs of columns that agree on them leave the same.
-use Rattle.std.specs.Prelude.{◌≡◌, refl, List, ℕ, ◌<◌, length, get_or}
+use Rattle.std.specs.Prelude.{◌≡◌, List, ℕ, ◌<◌, length, get_or}
 use borrow.Author.Tests.{le-ltb}
 use Rattle.lists.specs.Below.{any_same, sum_same}
 use Rattle.lists.specs.Table.{table_same}
@@ -8,7 +8,7 @@ use Rattle.std.proofs.Math.Bool.{false}
 use Rattle.measures.specs.declared.Kind.{Kind}
 use Rattle.sheet.specs.Sheets.{no_kind}
 use Rattle.plan_unplaced.specs.Short.{places, is_placed, one_placed, distinct_placed, is_short}
-use Rattle.plan_unplaced.specs.Left.{short_kind, flags_of, left_of, Reached}
+use Rattle.plan_unplaced.specs.Left.{short_kind, left_of, Reached}
 
 -- entries below n agree
 abbrev pub Agree : List ℕ → List ℕ → ℕ → Type 0

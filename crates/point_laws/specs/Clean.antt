@@ -1,6 +1,6 @@
 -- What every state made by the calls keeps: counts within their bounds, whole stores, and no NaN among the stored points.
-use Rattle.std.specs.Prelude.{◌≡◌, refl, Bool, true, false, cond, ◌&&◌, List, [], ◌∷◌, ℕ, suc, ◌+◌, ◌-◌, ◌*◌, ◌<◌, ◌≤◌, eqb, length, Float}
-use Rattle.std.proofs.Common.{sym, ◌∙◌, ap, arith, eqb-true}
+use Rattle.std.specs.Prelude.{◌≡◌, refl, Bool, true, false, List, [], ◌∷◌, ℕ, ◌+◌, ◌-◌, ◌*◌, ◌<◌, ◌≤◌, eqb, length, Float}
+use Rattle.std.proofs.Common.{◌∙◌, arith, eqb-true}
 use Rattle.std.proofs.Math.ListN.{length-set}
 use Rattle.std.specs.Float.Ieee.{lt}
 use Rattle.floats.specs.Ops.{x, y, z}
@@ -8,17 +8,16 @@ use Rattle.floats.specs.Weak.{lt_number_l}
 use Rattle.domain.specs.Bounds.{most_boxes}
 use Rattle.lists.specs.Bools.{and_left, cond_cases}
 use Rattle.measures.specs.declared.Kind.{Kind}
-use Rattle.measures.specs.declared.Container.{Container}
 use Rattle.measures.specs.Orders.{lengths_in}
 use Rattle.point_state.specs.declared.Label.{Label}
 use Rattle.point_place.specs.declared.Tried.{Tried}
 use Rattle.point_state.specs.declared.ExtremePointSet.{ExtremePointSet}
-use Rattle.point_state.specs.Triples.{cells, most_points, three, put3, put3_length, put3_keeps}
+use Rattle.point_state.specs.Triples.{cells, most_points, three, put3_length, put3_keeps}
 use Rattle.point_state.specs.Stores.{point_at}
 use Rattle.point_scan.specs.Choose.{best_of, scan_found}
-use Rattle.point_grow.specs.Grow.{Stock, dropped, added, count_with, points_with, count_with_lem, Between, along_x, along_y, along_z, corners_of, valid, stock_by}
+use Rattle.point_grow.specs.Grow.{Stock, dropped, added, count_with, points_with, count_with_lem, Between, along_x, along_y, corners_of, valid, stock_by}
 use Rattle.point_grow.specs.Grow.{stock_of, stock_few, put_box, after_box}
-use Rattle.point_place.specs.Place.{refusal_of, label_of, placed_by, tried_of, Ready, ready}
+use Rattle.point_place.specs.Place.{refusal_of, label_of, placed_by, tried_of, ready}
 use Rattle.point_laws.specs.Least.{Sound}
 
 pub record Clean (s : ExtremePointSet) : Type 0 where

@@ -1,14 +1,13 @@
 -- What the order is: a permutation of the listing in which each box comes before those of smaller volume, and before those of equal volume
 -- that are later in the listing; and there is no other such list.
-use Rattle.std.specs.Prelude.{◌≡◌, refl, Bool, true, false, not, cond, ◌&&◌, ◌||◌, ℕ, zero, suc, ◌<◌, ◌≤◌, ltb, length, get_or, take, Float}
-use Rattle.std.proofs.Common.{sym, ◌∙◌, ap, ⊎_elim, suc-le-suc, not-suc-le-zero, le_of_suc-le-suc, eq-or-lt_of_le, arith, ltb-true, ltb-false, lt-ltb, le-ltb, length-append, get_or-take, length-take-le, ext_get_or}
+use Rattle.std.specs.Prelude.{◌≡◌, refl, Bool, true, false, not, cond, ◌&&◌, ◌||◌, ℕ, zero, suc, ◌<◌, ltb, length, get_or, Float}
+use Rattle.std.proofs.Common.{sym, ◌∙◌, ap, ⊎_elim, suc-le-suc, not-suc-le-zero, le_of_suc-le-suc, eq-or-lt_of_le, arith, ltb-true, ltb-false, lt-ltb, le-ltb, length-append}
 use mathlib.Core.List.Permᴰ
 use mathlib.Core.List.{List, [], ◌∷◌, ◌++◌, map, Permᴰ}
 use Rattle.std.proofs.lemmas.List.{map-append, get_or_at}
-use Rattle.std.proofs.Math.ListN.{get_or-append, get_or-map}
+use Rattle.std.proofs.Math.ListN.{get_or-append}
 use Rattle.std.specs.Float.Ieee.{lt}
 use Rattle.floats.specs.Weak.{Weak, Number, true_false, on_weak, lex, lex_weak}
-use Rattle.domain.specs.Bounds.{most_boxes}
 use Rattle.measures.specs.declared.Kind.{Kind}
 use Rattle.plan_boxes.specs.declared.Instance.{Instance}
 use Rattle.plan_boxes.specs.Turns.{turn_of}

@@ -1,6 +1,6 @@
 -- The stored points as a multiset: after a placement the old ones less the chosen plus the kept new ones; with none passing they stay.
 use Rattle.std.specs.Prelude.{◌≡◌, refl, Bool, true, false, cond, eqb, Float}
-use Rattle.std.proofs.Common.{sym, ◌∙◌, ap, ⊎_elim, eq-or-lt_of_le, le_of_suc-le-suc, not-suc-le-zero, add-one, eqb-true}
+use Rattle.std.proofs.Common.{sym, ◌∙◌, ⊎_elim, eq-or-lt_of_le, le_of_suc-le-suc, not-suc-le-zero, add-one, eqb-true}
 use mathlib.Core.List.{List, [], ◌∷◌, Permᴰ}
 use Prim.Native.Nat.{ℕ, zero, suc, ◌+◌, ◌-◌, ◌*◌, ◌<◌, ◌≤◌}
 use native.Mathlib.Omega.{arith}
@@ -14,12 +14,11 @@ use Rattle.point_state.specs.declared.ExtremePointSet.{ExtremePointSet}
 use Rattle.point_state.specs.Triples.{cells, most_points, three, put3, put3_length, three_same, three_other}
 use Rattle.point_state.specs.Stores.{point_at}
 use Rattle.point_place.specs.declared.Tried.{Tried}
-use Rattle.point_place.specs.declared.Answer.TheVariants.{Stands, NoRoom, Refused}
 use Rattle.lists.specs.Bools.{cond_cases}
 use Rattle.point_scan.specs.Choose.{best_of, scan_found}
 use Rattle.point_grow.specs.Grow.{Stock, dropped, added, count_with, points_with, count_with_lem, Between, along_x, along_y, along_z, corners_of, stock_by, stock_of}
 use Rattle.point_grow.specs.Grow.{after_box}
-use Rattle.point_place.specs.Place.{stood, refusal_of, label_of, placed_by, tried_of, ready}
+use Rattle.point_place.specs.Place.{stood, refusal_of, placed_by, tried_of, ready}
 use Rattle.point_laws.specs.Clean.{Clean}
 use Rattle.point_laws.specs.Reach.{Reached, reached_clean}
 

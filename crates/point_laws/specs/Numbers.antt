@@ -1,19 +1,17 @@
 -- What the answers of the place call tell, by the one definition of it, `point_place: word_of`. RULES: Refusals · First placer: point test
-use Rattle.std.specs.Prelude.{◌≡◌, refl, Bool, true, false, cond, List, ℕ, zero, suc, eqb, Float}
-use Rattle.std.proofs.Common.{sym, ◌∙◌, ap, arith, eq-eqb, ne_eqb, eqb-true}
+use Rattle.std.specs.Prelude.{◌≡◌, refl, true, false, List, ℕ, suc, eqb, Float}
+use Rattle.std.proofs.Common.{sym, ◌∙◌, arith, eq-eqb, ne_eqb, eqb-true}
 use Rattle.domain.specs.Bounds.{most_boxes}
-use Rattle.domain.specs.Refusals.{when, or_else}
+use Rattle.domain.specs.Refusals.{or_else}
 use Rattle.measures.specs.declared.Kind.{Kind}
-use Rattle.measures.specs.Orders.{lengths_in}
 use Rattle.measures.specs.Faults.{kind_fault}
 use Rattle.point_state.specs.declared.ExtremePointSet.{ExtremePointSet}
 use Rattle.point_state.specs.declared.Label.{Label}
-use Rattle.point_state.specs.Counts.{over_counts, over}
+use Rattle.point_state.specs.Counts.{over}
 use Rattle.point_place.specs.declared.Tried.{Tried}
 use Rattle.point_scan.specs.declared.Choice.{Choice}
 use Rattle.lists.specs.Bools.{cond_cases}
-use Rattle.point_scan.specs.Choose.{best_of}
-use Rattle.point_place.specs.Place.{Word, refused_by, said, refusal_of, label_of, placed_by, tried_of}
+use Rattle.point_place.specs.Place.{Word, refused_by, said, refusal_of, placed_by, tried_of}
 
 -- what a place call tells
 abbrev pub said_at : ExtremePointSet → Kind → ℕ → ℕ → Word

@@ -1,7 +1,7 @@
 -- Demand 2 for the placer: on every state that the calls make from a fresh one, a box goes to the least stored point that passes, and
 -- does not fit exactly when none passes; and such a state never has more than 1 plus twice the boxes placed stored.
-use Rattle.std.specs.Prelude.{◌≡◌, refl, Bool, true, false, not, cond, ◌&&◌, ◌||◌, ◌⊎◌, List, [], ◌∷◌, ℕ, zero, suc, ◌+◌, ◌*◌, ◌<◌, ◌≤◌, eqb, ltb, length, replicate, Float}
-use Rattle.std.proofs.Common.{sym, ◌∙◌, ap, inl, inr, le_of_suc-le-suc, not-suc-le-zero, arith, eq-eqb, ne_eqb, le-ltb}
+use Rattle.std.specs.Prelude.{◌≡◌, refl, Bool, true, false, not, cond, ◌&&◌, ◌||◌, ◌⊎◌, List, [], ◌∷◌, ℕ, ◌+◌, ◌*◌, ◌<◌, ◌≤◌, replicate, Float}
+use Rattle.std.proofs.Common.{sym, ◌∙◌, ap, inl, inr, arith, ne_eqb, le-ltb}
 use Rattle.std.proofs.lemmas.List.{length-replicate}
 use Rattle.std.specs.Float.Ieee.{le}
 use Rattle.floats.specs.Ops.{none, x, y, z, nowhere}
@@ -9,7 +9,7 @@ use Rattle.floats.specs.Order.{le_number_l}
 use Rattle.floats.specs.Weak.{Number, true_false}
 use Rattle.domain.specs.Bounds.{most_boxes}
 use Rattle.domain.specs.Ranges.{most, is_length, is_measure, is_limit}
-use Rattle.domain.specs.Refusals.{when, or_else}
+use Rattle.domain.specs.Refusals.{or_else}
 use Rattle.lists.specs.Bools.{or_left, or_right, and_left, and_right, not_true_of}
 use Rattle.domain.specs.Laws.{when_none}
 use Rattle.measures.specs.declared.Kind.{Kind}
@@ -18,8 +18,7 @@ use Rattle.measures.specs.Orders.{lengths_in}
 use Rattle.measures.specs.Faults.{kind_fault, container_fault}
 use Rattle.point_state.specs.declared.ExtremePointSet.{ExtremePointSet}
 use Rattle.point_place.specs.declared.Tried.{Tried}
-use Rattle.point_place.specs.declared.Answer.{Answer}
-use Rattle.point_place.specs.declared.Answer.TheVariants.{Stands, NoRoom, Refused}
+use Rattle.point_place.specs.declared.Answer.TheVariants.{Stands, NoRoom}
 use Rattle.point_state.specs.Triples.{cells, put3_length, put3_keeps}
 use Rattle.point_scan.specs.Passes.{fits_at}
 use Rattle.point_state.specs.Stores.{point_at}

@@ -1,5 +1,5 @@
 -- Every state of a run is one that the place calls make from a fresh one, so what Reach.antt says holds at each box of it.
-use Rattle.std.specs.Prelude.{◌≡◌, List, ℕ}
+use Rattle.std.specs.Prelude.{List, ℕ}
 use Rattle.measures.specs.declared.Kind.{Kind}
 use Rattle.plan_boxes.specs.declared.Instance.{Instance}
 use Rattle.point_state.specs.declared.ExtremePointSet.{ExtremePointSet}

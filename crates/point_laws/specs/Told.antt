@@ -1,17 +1,15 @@
 -- What the plan of an accepted order tells: it is not refused, the number considered is the smaller of that asked for and the total, and no more
 -- boxes are placed than were considered.
-use Rattle.std.specs.Prelude.{◌≡◌, refl, Bool, true, false, List, ℕ, zero, suc, ◌+◌, ◌≤◌, eqb, length, get_or, Float}
+use Rattle.std.specs.Prelude.{◌≡◌, refl, List, ℕ, zero, suc, ◌+◌, ◌≤◌, eqb, length, get_or, Float}
 use Rattle.std.proofs.Common.{le_refl, arith}
 use Rattle.domain.specs.Bounds.{most_kinds, most_boxes, most_lines}
 use Rattle.measures.specs.declared.Kind.{Kind}
 use Rattle.measures.specs.declared.Container.{Container}
 use Rattle.measures.specs.Orders.{share_of, lengths_in}
-use Rattle.measures.specs.Faults.{container_fault}
 use Rattle.sheet.specs.declared.Line.{Line}
 use Rattle.sheet.specs.declared.Sheet.{Sheet}
 use Rattle.sheet.specs.Sheets.{no_kind, boxes_in, sheet_refusal}
 use Rattle.sheet.specs.Accepted.{accepted}
-use Rattle.plan_unplaced.specs.declared.Left.{Left}
 use Rattle.plan_unplaced.specs.Left.{by_fair}
 use Rattle.plan_boxes.specs.declared.Instance.{Instance}
 use Rattle.plan_boxes.specs.Listing.{no_instance}

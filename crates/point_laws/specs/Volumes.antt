@@ -1,5 +1,5 @@
 -- The volumes of an accepted order's boxes are numbers, so that the order of its boxes is the one that Falling.antt says.
-use Rattle.std.specs.Prelude.{◌≡◌, refl, Bool, true, false, not, ◌&&◌, ◌||◌, ℕ, ◌*◌, ◌<◌, T, Float}
+use Rattle.std.specs.Prelude.{◌≡◌, refl, Bool, true, false, not, ◌||◌, ℕ, ◌*◌, ◌<◌, T, Float}
 use Rattle.std.proofs.Common.{sym, ◌∙◌, ne_eqb}
 use mathlib.Core.List.{List, Permᴰ}
 use Rattle.std.specs.Float.{nan, inf, fin, Format, binary64}

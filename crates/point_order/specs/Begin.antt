@@ -2,7 +2,7 @@
 -- a next box that is no larger.
 use Rattle.std.specs.Prelude.{◌≡◌, Bool, not, List, [], ◌∷◌, ◌++◌, ℕ, zero, suc, ◌+◌, ◌-◌, ◌<◌, ◌≤◌, T, eqb, length, get_or, take, Float}
 use Rattle.std.proofs.Math.Path.{refl, sym}
-use Rattle.std.proofs.Common.{◌∙◌, ap, not-suc-le-zero, le_of_suc-le-suc, eq-or-lt_of_le, add-one, eqb-true, get_or-take}
+use Rattle.std.proofs.Common.{◌∙◌, ap, not-suc-le-zero, le_of_suc-le-suc, eq-or-lt_of_le, add-one, get_or-take}
 use Rattle.std.proofs.Math.Bool.{true, false, cond}
 use Rattle.std.proofs.Math.Logic.{⊎_elim}
 use native.Mathlib.Omega.{arith}
@@ -11,7 +11,6 @@ use Rattle.std.proofs.Math.ListN.{drop, get_or-append}
 use Rattle.std.proofs.Math.Seq.{slice, length-take-le, get_or_at}
 use Rattle.std.specs.Float.{nan, inf, fin}
 use Rattle.std.specs.Float.Ieee.{lt, le, is_nan}
-use Rattle.std.specs.Float.Ieee.Bits.{is_true}
 use Rattle.floats.specs.Order.{lt_not_le, le_number_l}
 use Rattle.floats.specs.Weak.{Number, true_false, lt_number_l, lt_number_r, lt_weak}
 use Rattle.point_order.specs.Insert.{spot_of, opened, Passed, scan_none, scan_on}

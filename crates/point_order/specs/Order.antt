@@ -1,5 +1,5 @@
 -- The places of boxes by falling volume. RULES: First placer: run
-use Rattle.std.specs.Prelude.{◌≡◌, refl, Bool, true, false, cond, List, [], ◌∷◌, ℕ, zero, suc, ◌<◌, ◌≤◌, ltb, length, get_or, take, drop, Float}
+use Rattle.std.specs.Prelude.{◌≡◌, refl, Bool, true, false, cond, List, [], ◌∷◌, ℕ, zero, suc, ◌≤◌, ltb, length, get_or, take, drop, Float}
 use Rattle.std.proofs.Common.{⊎_elim, le_refl, eq-or-lt_of_le, arith, ltb-true, ltb-false, lt-ltb}
 use Rattle.std.specs.Float.{nan}
 use Rattle.std.specs.Float.Ieee.{lt}

@@ -1,5 +1,5 @@
 -- The boxes of an order in columns: as they are listed, and by falling volume through a store of places. RULES: First placer: run
-use Rattle.std.specs.Prelude.{◌≡◌, refl, List, map, ℕ, ◌+◌, ◌<◌, ◌≤◌, length, get_or, set, take, Float}
+use Rattle.std.specs.Prelude.{◌≡◌, List, ℕ, ◌+◌, ◌<◌, ◌≤◌, length, get_or, set, take, Float}
 use Rattle.std.proofs.Common.{sym, ◌∙◌, add-one, arith}
 use Rattle.std.proofs.Math.Path.{ap}
 use Rattle.std.proofs.Math.ListN.{get_or-map}
@@ -10,7 +10,6 @@ use Rattle.measures.specs.declared.Kind.{Kind}
 use Rattle.sheet.specs.declared.Sheet.{Sheet}
 use Rattle.sheet.specs.Sheets.{boxes_in}
 use Rattle.sheet.specs.Accepted.{Accepted}
-use Rattle.file_read.specs.Form.{counts_of}
 use Rattle.file_read.specs.Reading.{sheet_of}
 use Rattle.file_read.specs.Records.{Readable}
 use Rattle.plan_boxes.specs.declared.Instance.{Instance}

@@ -1,5 +1,5 @@
 -- A run into lent columns: what stands in them after each box. RULES: First placer: run · Lent memory
-use Rattle.std.specs.Prelude.{◌≡◌, Bool, true, false, cond, List, [], ◌∷◌, length, get_or, set, replicate, Float}
+use Rattle.std.specs.Prelude.{◌≡◌, true, false, List, [], ◌∷◌, length, get_or, set, replicate, Float}
 use Rattle.std.proofs.Math.Path.{refl, ap}
 use Rattle.std.proofs.Common.{sym, ◌∙◌, le_refl, add-one, arith, length-set}
 use Prim.Native.Nat.{ℕ, zero, suc, ◌+◌, ◌*◌, ◌≤◌, ◌<◌}
@@ -7,7 +7,7 @@ use Rattle.std.proofs.lemmas.List.{length-replicate}
 use Rattle.std.proofs.Math.Seq.{get_or-set_same, get_or-set_other}
 use Rattle.floats.specs.Ops.{none, ◌⊕◌}
 use Rattle.lists.specs.Table.{filled, filled_length, filled_same}
-use Rattle.domain.specs.Bounds.{most_kinds, most_boxes, most_lines}
+use Rattle.domain.specs.Bounds.{most_kinds, most_boxes}
 use Rattle.measures.specs.declared.Container.{Container}
 use Rattle.measures.specs.declared.Kind.{Kind}
 use Rattle.measures.specs.Faults.{kind_fault}

@@ -1,38 +1,31 @@
 -- The run on a file's bytes is the plan of the sheet that they mean, in columns. RULES: Plans
-use Rattle.std.specs.Prelude.{◌≡◌, refl, Bool, true, false, not, cond, List, ℕ, ◌≤◌, ◌<◌, eqb, get_or, take, Float}
-use Rattle.std.proofs.Common.{sym, ◌∙◌, arith}
+use Rattle.std.specs.Prelude.{◌≡◌, refl, List, ℕ, ◌≤◌}
+use Rattle.std.proofs.Common.{sym, ◌∙◌}
 use Rattle.std.proofs.Math.Path.{ap}
-use borrow.Author.Tests.{le-ltb, eq-eqb, ne_eqb}
-use Rattle.floats.specs.Ops.{none, ◌⊘◌}
-use Rattle.lists.specs.Table.{filled, filled_same, table, table_at, table_same}
-use Rattle.domain.specs.Bounds.{most_kinds, most_boxes, most_lines}
-use Rattle.domain.specs.Refusals.{when, or_else}
-use Rattle.domain.specs.Laws.{or_else_second}
+use borrow.Author.Tests.{eq-eqb}
+use Rattle.floats.specs.Ops.{◌⊘◌}
+use Rattle.lists.specs.Table.{filled, filled_same, table, table_at}
+use Rattle.domain.specs.Bounds.{most_kinds, most_lines}
 use Rattle.measures.specs.declared.Container.{Container}
 use Rattle.measures.specs.declared.Kind.{Kind}
 use Rattle.measures.specs.Volume.{volume}
 use Rattle.sheet.specs.declared.Line.{Line}
 use Rattle.sheet.specs.declared.Sheet.{Sheet}
-use Rattle.sheet.specs.Sheets.{no_line, blank_line, blank_kind, boxes_in, sheet_refusal}
+use Rattle.sheet.specs.Sheets.{no_line, blank_line, boxes_in, sheet_refusal}
 use Rattle.sheet.specs.Accepted.{Accepted, accepted}
 use Rattle.plan_unplaced.specs.Left.{by_fair}
-use Rattle.plan_boxes.specs.declared.Instance.{Instance}
 use Rattle.plan_sheet.specs.declared.Told.{Told}
-use Rattle.plan_sheet.specs.Boxes.{smaller, smaller_le}
+use Rattle.plan_sheet.specs.Boxes.{smaller}
 use Rattle.plan_sheet.specs.Plans.{Plan, left_by, refused_plan, planned_of}
 use Rattle.sheet.specs.Columns.{id_of, instance_of, orientation_of, spot_of}
 use Rattle.plan_sheet.specs.Laid.{plan_in, told_of, laid, Lays}
 use Rattle.plan_sheet.specs.LaidLaws.{laid_all}
 use Rattle.plan_sheet.specs.Room.{Roomy, has_room, fitting, has_room_lem, fits_in}
-use Rattle.file_read.specs.Form.{right_shape, counts_of}
-use Rattle.file_read.specs.Reading.{kind_from, kind_place, kinds_of, sheet_of, refusal_of}
+use Rattle.file_read.specs.Reading.{sheet_of, refusal_of}
 use Rattle.file_read.specs.Refusal.{sheet_sound}
-use Rattle.file_read.specs.Records.{kind_in, Readable, bounds, kind_is, many_is}
-use Rattle.file_read.specs.Tables.{kinds_at}
 use Rattle.point_state.specs.Boxes.{volume_below}
-use Rattle.point_state.specs.Counts.{over, within_counts}
-use Rattle.point_state.specs.Fresh.{start_of, fresh_of}
-use Rattle.point_stow.specs.Stow.{Stowed, stowed_by}
+use Rattle.point_state.specs.Counts.{within_counts}
+use Rattle.point_stow.specs.Stow.{Stowed}
 use Rattle.point_run.specs.declared.Asking.{Asking}
 use Rattle.point_run.specs.declared.Stand.{Stand}
 use Rattle.point_run.specs.Boxes.{Asked, boxes_by}

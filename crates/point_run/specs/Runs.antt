@@ -12,7 +12,6 @@ use Rattle.sheet.specs.Sheets.{boxes_in, sheet_refusal}
 use Rattle.sheet.specs.Accepted.{Accepted}
 use Rattle.point_state.specs.declared.Label.{Label}
 use Rattle.point_state.specs.Triples.{three}
-use Rattle.point_state.specs.declared.ExtremePointSet.{ExtremePointSet}
 use Rattle.point_state.specs.Boxes.{no_label, total_volume}
 use Rattle.point_state.specs.Counts.{over}
 use Rattle.point_state.specs.Fresh.{start_of, fresh_of}

@@ -1,12 +1,12 @@
 -- Whether a box fits at a point of a state. RULES: First placer: point test
 use Rattle.std.proofs.Math.Path.{◌≡◌, refl, sym}
-use Rattle.std.proofs.Common.{◌∙◌, eq-or-lt_of_le, le_of_suc-le-suc, not-suc-le-zero, ne_eqb, eq-eqb, lt-ltb, ltb-true}
+use Rattle.std.proofs.Common.{◌∙◌, eq-or-lt_of_le, le_of_suc-le-suc, not-suc-le-zero, ne_eqb, eq-eqb, ltb-true}
 use Rattle.std.specs.Prelude.{Bool, not, cond, ◌&&◌, List, eqb, ltb, Float}
 use Rattle.std.proofs.Math.Bool.{true, false}
 use Rattle.std.proofs.Math.Logic.{⊎_elim}
 use Prim.Native.Nat.{ℕ, zero, suc, ◌+◌, ◌*◌, ◌<◌, ◌≤◌}
 use native.Mathlib.Omega.{arith}
-use Rattle.lists.specs.Bools.{and_left, and_right, not_true_of, cond_cases}
+use Rattle.lists.specs.Bools.{and_left, and_right, cond_cases}
 use Rattle.measures.specs.Asked.{asked_of}
 use Rattle.point_state.specs.declared.ExtremePointSet.{ExtremePointSet}
 use Rattle.point_state.specs.All.{all, all_false}

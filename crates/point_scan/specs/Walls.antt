@@ -1,7 +1,7 @@
 -- The walls of the placed boxes, worked out once, the scan by them with its hints, and that it makes the choice of the definition.
 -- RULES: First placer: point test
-use Rattle.std.specs.Prelude.{◌≡◌, refl, Bool, false, not, cond, ◌&&◌, ◌||◌, List, [], ◌∷◌, ℕ, zero, suc, ◌+◌, ◌*◌, ◌<◌, ◌≤◌, ltb, length, get_or, set, replicate, Float}
-use Rattle.std.proofs.Common.{◌∙◌, ap, not-suc-le-zero, arith, ltb-false, le-ltb, length-set}
+use Rattle.std.specs.Prelude.{◌≡◌, refl, Bool, false, not, cond, ◌&&◌, ◌||◌, List, ℕ, zero, suc, ◌+◌, ◌*◌, ◌<◌, ◌≤◌, ltb, length, get_or, set, replicate, Float}
+use Rattle.std.proofs.Common.{◌∙◌, not-suc-le-zero, arith, ltb-false, le-ltb, length-set}
 use Rattle.std.proofs.lemmas.List.{length-replicate}
 use Rattle.floats.specs.Ops.{none}
 use Rattle.domain.specs.Bounds.{most_boxes}
@@ -9,12 +9,12 @@ use Rattle.lists.specs.Below.{upto}
 use Rattle.lists.specs.Bools.{or_left, or_right, cond_keeps}
 use Rattle.measures.specs.Asked.{asked_of}
 use Rattle.point_state.specs.declared.ExtremePointSet.{ExtremePointSet}
-use Rattle.point_state.specs.All.{all, all_same}
+use Rattle.point_state.specs.All.{all_same}
 use Rattle.point_state.specs.Counts.{over_counts, over, Within, within_counts, not_over}
 use Rattle.point_state.specs.Triples.{cells, three, put3, sum3, put3_length, three_same, three_other, has_triple, has_triple_lem}
 use Rattle.point_state.specs.Stores.{point_at}
 use Rattle.point_fit.specs.declared.Room.{Room}
-use Rattle.point_fit.specs.Fit.{room_of, in_room, apart, far_wall, near_wall}
+use Rattle.point_fit.specs.Fit.{room_of, far_wall, near_wall}
 use Rattle.point_fit.specs.Sooner.{sooner}
 use Rattle.point_scan.specs.declared.Choice.{Choice}
 use Rattle.point_scan.specs.Passes.{separated, fits_at, none_blocks, passes_by, hint_after, apart_from}

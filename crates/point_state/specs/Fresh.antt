@@ -1,5 +1,5 @@
 -- A fresh state. RULES: First placer: state
-use Rattle.std.specs.Prelude.{Bool, cond, List, [], ◌∷◌, replicate, Float}
+use Rattle.std.specs.Prelude.{Bool, cond, [], ◌∷◌, replicate}
 use Rattle.floats.specs.Ops.{none}
 use Rattle.domain.specs.Bounds.{most_boxes}
 use Rattle.domain.specs.Refusals.{when}

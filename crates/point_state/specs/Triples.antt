@@ -1,7 +1,7 @@
 -- Flat stores of triples: triple k of a list of floats is its cells 3k, 3k + 1 and 3k + 2. The points, the placed boxes and their walls are
 -- stored so: point k is triple k, and box i has the triples 2i and 2i + 1.
 use Rattle.std.specs.Prelude.{◌≡◌, refl, Bool, true, false, cond, List, [], ◌∷◌, ℕ, ◌+◌, ◌*◌, ◌<◌, ◌≤◌, eqb, ltb, length, get_or, set, Float}
-use Rattle.std.proofs.Common.{◌∙◌, ap, arith, eqb-true, lt-ltb, le-ltb, length-set, get_or-set_same, get_or-set_other}
+use Rattle.std.proofs.Common.{◌∙◌, arith, eqb-true, lt-ltb, le-ltb, length-set, get_or-set_same, get_or-set_other}
 use Rattle.std.proofs.lemmas.Bool.{eqb-false}
 use Rattle.std.specs.Float.{nan}
 use Rattle.floats.specs.Ops.{x, y, z, nowhere, ◌⊕◌}

@@ -1,5 +1,5 @@
 -- Stores that are shorter than those of a state: padded to their length, a step over them is a step over those. RULES: First placer: run
-use Rattle.std.specs.Prelude.{◌≡◌, refl, Bool, not, cond, List, [], ◌∷◌, ◌++◌, ℕ, ◌+◌, ◌-◌, ◌*◌, ◌≤◌, ◌<◌, get_or, set, replicate, Float}
+use Rattle.std.specs.Prelude.{◌≡◌, refl, Bool, cond, List, ◌++◌, ℕ, ◌+◌, ◌-◌, ◌*◌, ◌≤◌, ◌<◌, set, replicate, Float}
 use Rattle.std.proofs.Common.{sym, ◌∙◌, ap, arith, length-set, length-append}
 use Rattle.std.proofs.Math.Bool.{true, false}
 use Rattle.std.proofs.Math.ListN.{length, get_or-append}
@@ -12,19 +12,17 @@ use Rattle.measures.specs.declared.Container.{Container}
 use Rattle.measures.specs.declared.Kind.{Kind}
 use Rattle.measures.specs.Asked.{asked_of}
 use Rattle.measures.specs.Orders.{share_of, lengths_in}
-use Rattle.point_state.specs.All.{all, all_same}
-use Rattle.point_state.specs.Counts.{Within}
+use Rattle.point_state.specs.All.{all_same}
 use Rattle.point_state.specs.Triples.{cells, three, put3, put3_length, sum3, triple_in, triple_in_lem}
 use Rattle.point_fit.specs.declared.Room.{Room}
-use Rattle.point_fit.specs.Ends.{buries}
 use Rattle.point_fit.specs.Fit.{room_of, far_wall, near_wall}
-use Rattle.point_grow.specs.Grow.{free, valid, corners_of, Stock, count_with, points_with, count_with_lem, with_long, stock_by, put_box, box_in_lem, box_long, restock_in}
+use Rattle.point_grow.specs.Grow.{free, valid, corners_of, count_with, points_with, count_with_lem, with_long, stock_by, put_box, box_in_lem, box_long, restock_in}
 use Rattle.point_scan.specs.Passes.{apart_from, none_blocks, passes_by}
 use Rattle.point_scan.specs.Choose.{scan_found, scan_alike}
 use Rattle.point_scan.specs.Walls.{InStores, scan_of, scanned_in, put_walls, walls_in_lem}
 use Rattle.point_step.specs.declared.Pick.{Pick}
 use Rattle.point_step.specs.declared.Stood.{Stood}
-use Rattle.point_step.specs.Pick.{too_heavy, Spare, spare_in, choice_in, no_pick, pick_of, pick_same, pick_index}
+use Rattle.point_step.specs.Pick.{too_heavy, Spare, spare_in, choice_in, pick_of, pick_same, pick_index}
 use Rattle.point_step.specs.Step.{Stores, stores, StepIs, pick_for, hints_for, stock_after, boxes_after, walls_after}
 
 -- the store padded to the length of a state's

@@ -1,5 +1,5 @@
 -- The pick of a box is what the place calls find, one orientation after the other.
-use Rattle.std.specs.Prelude.{◌≡◌, refl, Bool, true, false, cond, List}
+use Rattle.std.specs.Prelude.{◌≡◌, refl, Bool, true, false, cond}
 use Rattle.std.proofs.Common.{sym, eq-eqb}
 use Prim.Native.Nat.{ℕ, zero, suc}
 use Rattle.floats.specs.Ops.{nowhere}

@@ -1,10 +1,9 @@
 -- What every place call keeps, boxes placed in order keep; and that the counts stay within their bounds.
-use Rattle.std.specs.Prelude.{◌≡◌, Bool, true, false, cond, List, eqb, length}
-use Prim.Native.Nat.{ℕ, zero, suc, ◌+◌, ◌*◌, ◌≤◌}
+use Rattle.std.specs.Prelude.{◌≡◌, Bool, true, false, List, eqb, length}
+use Prim.Native.Nat.{ℕ, zero, suc}
 use Rattle.std.proofs.Common.{arith, eqb-true}
 use Rattle.std.proofs.Math.ListN.{get_or}
 use Rattle.lists.specs.Bools.{cond_cases}
-use Rattle.domain.specs.Bounds.{most_boxes}
 use Rattle.measures.specs.declared.Kind.{Kind}
 use Rattle.measures.specs.declared.Container.{Container}
 use Rattle.measures.specs.Orders.{share_of, lengths_in}
@@ -14,7 +13,7 @@ use Rattle.plan_boxes.specs.Listing.{no_instance}
 use Rattle.point_state.specs.declared.ExtremePointSet.{ExtremePointSet}
 use Rattle.point_state.specs.Boxes.{total_mass}
 use Rattle.point_state.specs.Fresh.{start_of}
-use Rattle.point_state.specs.Counts.{over_counts, over, Within, not_over}
+use Rattle.point_state.specs.Counts.{over, Within, not_over}
 use Rattle.point_grow.specs.Grow.{after_box, stock_few}
 use Rattle.point_scan.specs.Choose.{best_of, scan_found}
 use Rattle.point_place.specs.declared.Tried.{Tried}

@@ -1,5 +1,5 @@
 -- Boxes placed in a given order, as a run does once it has sorted them. RULES: First placer: run
-use Rattle.std.specs.Prelude.{◌≡◌, Bool, false, cond, List, ℕ, zero, suc, ◌<◌, ◌≤◌, length, get_or, set, replicate}
+use Rattle.std.specs.Prelude.{◌≡◌, Bool, false, cond, List, ℕ, zero, suc, ◌<◌, length, get_or, set, replicate}
 use Rattle.std.proofs.Common.{arith}
 use Rattle.floats.specs.Ops.{nowhere}
 use Rattle.domain.specs.Bounds.{most_kinds, most_boxes}

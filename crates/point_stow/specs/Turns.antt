@@ -3,13 +3,13 @@ use Rattle.std.specs.Prelude.{◌≡◌, refl, Bool, List, ℕ, zero, suc, ◌+�
 use Rattle.std.proofs.Math.Path.{sym, ap}
 use Rattle.std.proofs.Common.{◌∙◌, le_refl, add-one, arith, length-set, get_or-set_same, get_or-set_other}
 use Rattle.std.proofs.Math.Bool.{true, false, cond}
-use borrow.Author.Tests.{lt-ltb, ne_eqb}
+use borrow.Author.Tests.{ne_eqb}
 use Rattle.std.proofs.Math.ListN.{length}
 use Rattle.std.proofs.lemmas.List.{length-replicate}
 use Rattle.floats.specs.Ops.{none}
 use Rattle.floats.specs.Weak.{true_false}
 use Rattle.domain.specs.Bounds.{most_boxes}
-use Rattle.domain.specs.Refusals.{when, or_else}
+use Rattle.domain.specs.Refusals.{or_else}
 use Rattle.measures.specs.declared.Kind.{Kind}
 use Rattle.measures.specs.declared.Container.{Container}
 use Rattle.measures.specs.Asked.{asked_of}
@@ -22,12 +22,12 @@ use Rattle.point_state.specs.declared.Label.{Label}
 use Rattle.point_state.specs.declared.ExtremePointSet.{ExtremePointSet}
 use Rattle.point_state.specs.Triples.{cells, three, three_other, triple_in_lem, put3_length}
 use Rattle.point_state.specs.Fresh.{blank, start_of}
-use Rattle.point_state.specs.Boxes.{no_label, label_at, mass_with, mass_below}
-use Rattle.point_state.specs.Counts.{over_counts, Within, not_over}
+use Rattle.point_state.specs.Boxes.{no_label, mass_with, mass_below}
+use Rattle.point_state.specs.Counts.{over_counts, not_over}
 use Rattle.point_fit.specs.Fit.{room_of}
-use Rattle.point_grow.specs.Grow.{put_box, after_box, stock_of, stock_few, stock_long, box_long, restock_in, box_in_lem}
+use Rattle.point_grow.specs.Grow.{put_box, after_box, stock_few, stock_long, box_long, restock_in, box_in_lem}
 use Rattle.point_scan.specs.Choose.{best_of, scan_found}
-use Rattle.point_scan.specs.Walls.{Walled, walls_of, walls_walled, put_walls, put_walled, walls_in_lem, InStores, scan_of, scanned_in, walled_best}
+use Rattle.point_scan.specs.Walls.{Walled, walls_of, walls_walled, put_walls, put_walled, walls_in_lem, InStores, scanned_in, walled_best}
 use Rattle.point_place.specs.Place.{refusal_of, label_of}
 use Rattle.point_step.specs.declared.Pick.{Pick}
 use Rattle.point_step.specs.declared.Stood.{Stood}

@@ -1,14 +1,10 @@
 -- What is known of a sheet that is not refused.
-use Rattle.std.specs.Prelude.{◌≡◌, refl, Bool, true, false, not, ◌||◌, ℕ, zero, suc, ◌<◌, ◌≤◌, eqb, ltb, get_or, Float}
-use Rattle.std.proofs.Common.{arith, ltb-false}
-use Rattle.std.specs.Float.{binary64}
-use Rattle.std.specs.Float.Ieee.{to_bits}
-use Rattle.floats.specs.Ops.{x, y, z}
+use Rattle.std.specs.Prelude.{◌≡◌, Bool, false, ℕ, ◌<◌, ◌≤◌, ltb}
+use Rattle.std.proofs.Common.{ltb-false}
 use Rattle.domain.specs.Bounds.{most_kinds, most_boxes, most_lines, most_unplaced}
-use Rattle.domain.specs.Ranges.{is_length, is_measure, is_limit, is_position}
 use Rattle.lists.specs.Below.{any_below, sum_below}
-use Rattle.domain.specs.Refusals.{when, or_else, first_below}
-use Rattle.lists.specs.Bools.{or_left, or_right, not_true_of}
+use Rattle.domain.specs.Refusals.{when, first_below}
+use Rattle.lists.specs.Bools.{or_left, or_right}
 use Rattle.domain.specs.Laws.{or_else_first, or_else_second, when_none, first_none}
 use Rattle.measures.specs.declared.Kind.{Kind}
 use Rattle.measures.specs.Faults.{record_fault, measure_fault, kind_fault, container_fault}

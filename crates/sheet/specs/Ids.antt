@@ -1,7 +1,6 @@
 -- Laws on the ids of a list of sheet_kinds: gathered once, they tell whether an id repeats an earlier kind's.
-use Rattle.std.specs.Prelude.{◌≡◌, refl, Bool, ◌||◌, List, ℕ, zero, suc, ◌<◌, ◌≤◌, length, get_or, set}
-use Rattle.std.proofs.Common.{sym, ◌∙◌, ⊎_elim, eq-or-lt_of_le, le_of_suc-le-suc, not-suc-le-zero, arith, le-leb, length-set, get_or-set_same, get_or-set_other}
-use Rattle.std.proofs.lemmas.List.{length-replicate}
+use Rattle.std.specs.Prelude.{◌≡◌, List, ℕ, ◌<◌, ◌≤◌, get_or}
+use Rattle.std.proofs.Common.{arith, le-leb}
 use Rattle.domain.specs.Bounds.{most_kinds}
 use Rattle.lists.specs.Below.{any_below, is_at, any_same}
 use Rattle.lists.specs.Table.{table_at}

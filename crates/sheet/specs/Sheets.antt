@@ -1,5 +1,5 @@
 -- What a sheet holds, and the refusal that it gets, from 2 on and in the stated order. RULES: Refusals
-use Rattle.std.specs.Prelude.{ℕ, zero, suc, Bool, not, ◌&&◌, ◌||◌, cond, List, [], ◌∷◌, eqb, ltb, leb, get_or, replicate, Float}
+use Rattle.std.specs.Prelude.{ℕ, Bool, not, ◌&&◌, ◌||◌, cond, List, [], eqb, ltb, leb, get_or, replicate}
 use Rattle.std.specs.Float.{nan}
 use Rattle.floats.specs.Ops.{none, nowhere, x, y, z}
 use Rattle.lists.specs.Table.{table}
@@ -8,7 +8,6 @@ use Rattle.domain.specs.Ranges.{is_position}
 use Rattle.lists.specs.Below.{any_below, sum_below, is_at}
 use Rattle.domain.specs.Refusals.{when, or_else, first_below}
 use Rattle.measures.specs.declared.Kind.{Kind}
-use Rattle.measures.specs.declared.Container.{Container}
 use Rattle.measures.specs.Faults.{kind_fault, container_fault}
 use Rattle.sheet.specs.declared.Counts.{Counts}
 use Rattle.sheet.specs.declared.Line.{Line}

@@ -1,17 +1,16 @@
 -- The scan gives the survey.
-use Rattle.std.specs.Prelude.{◌≡◌, refl, Bool, true, false, cond, List, ℕ, zero, suc, ◌+◌, ◌*◌, ◌<◌, ◌≤◌, ltb, leb, eqb, length, get_or}
-use Rattle.std.proofs.Common.{sym, ◌∙◌, arith, add-one, le-leb, lt-ltb, le-ltb, ltb-false}
+use Rattle.std.specs.Prelude.{◌≡◌, refl, Bool, true, false, List, ℕ, zero, suc, ◌*◌, ◌<◌, ◌≤◌, ltb, length, get_or}
+use Rattle.std.proofs.Common.{arith, add-one, lt-ltb, ltb-false}
 use Rattle.std.proofs.lemmas.Bool.{lt-leb}
-use Rattle.lists.specs.Table.{filled, table}
+use Rattle.lists.specs.Table.{filled}
 use Rattle.domain.specs.Bounds.{most_kinds}
 use Rattle.lists.specs.Below.{sum_below}
-use Rattle.domain.specs.Refusals.{or_else, first_below}
+use Rattle.domain.specs.Refusals.{first_below}
 use Rattle.measures.specs.declared.Kind.{Kind}
-use Rattle.sheet.specs.Sheets.{no_kind, among, ids_below, same_id, kind_fault_in, quantity_of}
+use Rattle.sheet.specs.Sheets.{no_kind, ids_below, kind_fault_in, quantity_of}
 use Rattle.sheet.specs.Ids.{repeats_same}
 use Rattle.sheet_kinds.specs.declared.Passed.{Passed}
-use Rattle.sheet_kinds.specs.declared.Surveyed.{Surveyed}
-use Rattle.sheet_kinds.specs.Scan.{start_of, added_of, place_after, number_of, step_of, passed_below, finish_of}
+use Rattle.sheet_kinds.specs.Scan.{start_of, step_of, passed_below, finish_of}
 use Rattle.sheet_kinds.specs.Survey.{place_below, survey_of}
 
 -- what is known after n kinds

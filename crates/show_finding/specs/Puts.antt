@@ -1,10 +1,10 @@
 -- Texts stored one behind the other are one longer text stored.
 use Rattle.std.specs.Prelude.{◌≡◌, refl, Bool, true, false, cond, List, [], ◌∷◌, ◌++◌, ℕ, suc, ◌+◌, ◌<◌, ◌≤◌, leb, length, get_or, set, take}
-use Rattle.std.proofs.Common.{sym, ◌∙◌, ap, arith, add-zero, add-one, length-append, length-take-le, take-suc}
+use Rattle.std.proofs.Common.{sym, ◌∙◌, arith, add-zero, add-one, length-append, length-take-le, take-suc}
 use Rattle.std.proofs.lemmas.List.Edits.{sets}
 use Rattle.std.proofs.Math.Seq.{length-sets}
 use Rattle.show.specs.Hex.{hex_of}
-use Rattle.show_finding.specs.Decimal.{decimal_of, decimal_to, decimal_length}
+use Rattle.show_finding.specs.Decimal.{decimal_of, decimal_length}
 use Rattle.show_finding.specs.Line.{used_of, is_float, word_of, field_of, most_letters, Put, Shown}
 
 pub sets_append : (ws vs o : List ℕ) (at : ℕ) → sets (sets o at ws) (at + length ws) vs ≡ sets o at (ws ++ vs)

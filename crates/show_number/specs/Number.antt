@@ -1,7 +1,7 @@
 -- A word as a number: decimal digits and nothing else.
 use Rattle.std.specs.Prelude.{ℕ, suc, ◌+◌, ◌*◌, ◌<◌, ◌≤◌, Bool, true, false, not, cond, ◌&&◌, List, [], ◌∷◌, ◌≡◌, refl, ltb, leb, eqb, length, get_or, drop, take}
-use Rattle.std.proofs.Common.{sym, ◌∙◌, arith, lt-ltb, le-ltb, ltb-true, ltb-false, drop-cons, take-suc}
-use Rattle.std.proofs.Math.Seq.{drop-length, take-length}
+use Rattle.std.proofs.Common.{sym, ◌∙◌, arith, le-ltb, ltb-true, ltb-false, drop-cons, take-suc}
+use Rattle.std.proofs.Math.Seq.{drop-length}
 use Rattle.show.specs.Digits.{digit_value, value_from, value_of, value_more}
 use Rattle.show_number.specs.declared.Number.{Number}
 

@@ -1,5 +1,5 @@
 -- A count of findings, and a file's length, are far below 2^32, so that an answer's two parts do not mix.
-use Rattle.std.specs.Prelude.{◌≡◌, refl, Bool, true, false, cond, ◌&&◌, ◌||◌, List, [], ◌∷◌, ◌++◌, ℕ, zero, suc, ◌+◌, ◌*◌, ◌/◌, ◌<◌, ◌≤◌, eqb, ltb, leb, length, Float}
+use Rattle.std.specs.Prelude.{◌≡◌, refl, Bool, true, false, cond, ◌&&◌, ◌||◌, List, [], ◌∷◌, ℕ, zero, suc, ◌+◌, ◌*◌, ◌/◌, ◌<◌, ◌≤◌, eqb, ltb, leb, length, Float}
 use Rattle.std.proofs.Math.Bool.{not}
 use Rattle.std.proofs.Common.{le_refl, suc-mul, eqb-true}
 use native.Mathlib.Omega.{arith}
@@ -16,7 +16,7 @@ use Rattle.measures.specs.Orders.{share_of}
 use Rattle.sheet.specs.declared.Line.{Line}
 use Rattle.sheet.specs.declared.Sheet.{Sheet}
 use Rattle.sheet.specs.Sheets.{sheet_refusal}
-use Rattle.sheet.specs.Accepted.{Few, Accepted, accepted}
+use Rattle.sheet.specs.Accepted.{Few, accepted}
 use Rattle.check_pair.specs.declared.Verdict.{Verdict}
 use Rattle.check_pair.specs.declared.Verdict.TheVariants.{Apart, Overlap, TooClose}
 use Rattle.check_pair.specs.Tolerance.{tolerance_of}

@@ -1,0 +1,7 @@
+-- `le::word` meets its contract: the four bytes there.
+use mathlib.Core.Path.{◌∙◌}
+use Rattle.file_bytes.specs.Words.{four_is}
+use Rattle.file_read.proofs.le.word.Goals as goal
+
+pub returns : goal.returns
+returns c = c.u32_of.ensures ∙ four_is _ _

@@ -1,0 +1,16 @@
+-- `plan::put_columns` meets its contract: after i turns the first i lines are stored.
+use Prim.Native.Nat.{◌≤◌, ◌-◌}
+use mathlib.Core.Path.{◌≡◌}
+use lib.ListN.{length}
+use Rattle.file_bytes.specs.Stores.{Put}
+use Rattle.sheet.specs.Columns.{columns}
+use Rattle.file_write.specs.Planned.{columns_out}
+use Rattle.file_write.proofs.plan.put_columns.Given as goal
+
+abbrev pub invariant-loop-i : goal.invariant-loop-i
+invariant-loop-i l =
+    (l.i ≤ l.n) × (length l.out ≡ length l.initial.out)
+    × Put l.initial.out l.start (columns_out (columns l.ids l.instances l.turns l.spots) l.i) l.out
+
+abbrev pub decreases-loop-i : goal.decreases-loop-i
+decreases-loop-i l = l.n - l.i

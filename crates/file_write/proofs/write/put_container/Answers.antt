@@ -1,0 +1,19 @@
+-- `write::put_container` meets its contract: the fields one after the other.
+use mathlib.Core.Path.{refl}
+use native.Mathlib.Omega.{arith}
+use Rattle.file_bytes.specs.Bytes.{float}
+use Rattle.file_bytes.specs.Layout.{fields_out, bytes_length}
+use Rattle.file_bytes.specs.Stores.{put, then, put_none}
+use Rattle.file_write.specs.Writing.{container_out, container_numbers}
+use Rattle.file_write.proofs.write.put_container.Goals as goal
+
+pub returns : goal.returns
+unfolding container_out container_numbers fields_out
+returns c =
+    then (put_none _ _) refl (omega arith)
+    (then (put float _ c.put_f64.ensures (omega arith)) (bytes_length float _) (omega arith)
+    (then (put float _ c.put_f64-2.ensures (omega arith)) (bytes_length float _) (omega arith)
+    (then (put float _ c.put_f64-3.ensures (omega arith)) (bytes_length float _) (omega arith)
+    (then (put float _ c.put_f64-4.ensures (omega arith)) (bytes_length float _) (omega arith)
+    (then (put float _ c.put_f64-5.ensures (omega arith)) (bytes_length float _) (omega arith)
+    (then (put float _ c.put_f64-6.ensures (omega arith)) (bytes_length float _) refl (put_none _ _)))))))

@@ -1,0 +1,25 @@
+-- `write::put_ids` meets its contract: after i turns the first i records are stored.
+use native.Mathlib.Omega.{arith}
+use native.Mathlib.Numerals.{add-one}
+use mathlib.Core.Path.{◌≡◌, refl, ◌∙◌}
+use Rattle.lists.specs.Below.{all_below}
+use Rattle.file_write.specs.Writing.{ids_out}
+use Rattle.file_bytes.specs.Stores.{put, then, put_none, put_length}
+use Rattle.file_write.specs.Stores.{ids_length}
+use Rattle.file_write.proofs.write.put_ids.Goals as goal
+
+pub loop-i-init : goal.loop-i-init
+unfolding ids_out all_below
+loop-i-init c = (omega arith, refl, put_none _ _)
+
+pub loop-i-preserved : goal.loop-i-preserved
+unfolding ids_out all_below
+loop-i-preserved c =
+    let p = put 4 _ c.put_u32.ensures (omega arith) in
+    (omega arith, put_length p ∙ c.loop-i.invariant.1, rw add-one (then c.loop-i.invariant.2 (ids_length c.args.ids c.loop-i.i) refl p))
+
+pub shape_of-out : goal.shape_of-out
+shape_of-out c = c.loop-i.invariant.1
+
+pub returns : goal.returns
+returns c = let e : c.loop-i.i ≡ c.args.n = omega arith in rw e at c.loop-i.invariant.2

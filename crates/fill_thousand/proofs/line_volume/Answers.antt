@@ -1,0 +1,21 @@
+-- `line_volume` meets its contract: after k turns the sum is over the first k kinds.
+use Rattle.std.proofs.Common.{◌≡◌, refl, add-one, arith}
+use Rattle.lists.specs.Below.{sum_below}
+use Rattle.fill_thousand.specs.Tabled.{volume_if}
+use Rattle.fill_thousand.proofs.line_volume.Goals as goal
+
+pub loop-k-init : goal.loop-k-init
+unfolding sum_below
+loop-k-init c = (omega arith, omega arith, refl)
+
+pub overflow_add-t : goal.overflow_add-t
+overflow_add-t c = omega (arith, c.requires.1 c.loop-k.k (omega arith))
+
+pub loop-k-preserved : goal.loop-k-preserved
+unfolding sum_below volume_if
+loop-k-preserved c =
+    let b = c.requires.1 c.loop-k.k (omega arith) in
+    (omega arith, omega arith, rw (add-one, ← c.loop-k.invariant.2) (rw c.volume_if-t.ensures.0))
+
+pub returns : goal.returns
+returns c = let e : c.loop-k.k ≡ c.args.m = omega arith in rw e at c.loop-k.invariant.2

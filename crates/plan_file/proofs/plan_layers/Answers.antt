@@ -1,0 +1,38 @@
+-- `plan_file::plan_layers` meets its contract: the plan laid in few cells, where they do, in some, or in as many as there may be lines.
+use mathlib.Core.Path.{sym}
+use mathlib.Core.Bool.{false}
+use native.Mathlib.Omega.{arith}
+use Rattle.plan_file.specs.Laid.{answers_few}
+use Rattle.plan_file.proofs.plan_layers.Goals as goal
+
+pub returns-then-n : goal.returns-then-n
+returns-then-n c = c.plan_long.ensures
+
+pub returns-then-n-2 : goal.returns-then-n-2
+returns-then-n-2 c = c.plan_some.ensures
+
+pub returns-then-laid-eq6 : goal.returns-then-laid-eq6
+returns-then-laid-eq6 c = c.plan_long-then-laid-eq6.ensures
+
+pub returns : goal.returns
+returns c =
+    let w = c.before.before in
+    let e = w.before.before.before.before.before.before.before in
+    let l = e.before.before.before.before.before.before in
+    let k = l.before.before.before.before.before.before.before.before.before in
+    let a = k.args in
+    answers_few false a.order.now (λ i. omega (arith, k.shared_slice_known-1.given i)) a.consider _ _ _ l.lay_layers-laid.ensures _ _ _ _ _
+    w.write_laid.ensures
+    e.if-laid-eq6.false
+
+pub slice_bounds-write_laid-end : goal.slice_bounds-write_laid-end
+slice_bounds-write_laid-end c = sym c.lay_layers-laid.auto.ids
+
+pub slice_bounds-write_laid-end-2 : goal.slice_bounds-write_laid-end-2
+slice_bounds-write_laid-end-2 c = sym c.lay_layers-laid.auto.instances
+
+pub slice_bounds-write_laid-end-3 : goal.slice_bounds-write_laid-end-3
+slice_bounds-write_laid-end-3 c = sym c.lay_layers-laid.auto.turns
+
+pub slice_bounds-write_laid-end-4 : goal.slice_bounds-write_laid-end-4
+slice_bounds-write_laid-end-4 c = sym c.lay_layers-laid.auto.spots
