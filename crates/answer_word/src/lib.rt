@@ -1,4 +1,7 @@
 // An answer of the boundary in one word: the refusal number times 2^32 plus a count. RULES: Boundary
+
+#![tactic(auto)]
+
 ghost use Rattle.std.specs.Prelude.{◌≡◌};
 ghost use Rattle.answer_word.specs.Answer.{answer_of};
 

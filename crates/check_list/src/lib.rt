@@ -1,5 +1,8 @@
 // The findings on a load sheet, over its bytes and columns that were filled from them once: those of the lines and their pairs, then
 // those on the mass and the kinds. RULES: Findings: words
+
+#![tactic(auto)]
+
 ghost use Rattle.std.specs.Prelude.{◌≡◌, ◌+◌};
 ghost use Rattle.check_list.specs.View.{fair};
 ghost use Rattle.check_list.specs.Held.{held, rule_of, kinds_in, LinesRan, Followed};
@@ -18,7 +21,7 @@ const LINE_WORDS: usize = 5
     * (6 * domain::MOST_LINES + domain::MOST_LINES * domain::MOST_LINES / 2);
 
 // What lines are judged by: how many kinds and lines there are, the container that they are in, and its tolerance.
-#[derive(Drop)]
+#[derive(Clone, Copy)]
 pub struct Rule {
     pub kinds: usize,
     pub lines: usize,

@@ -22,7 +22,7 @@ use check_words::CORNERS;
 
 // What settles a pair without its root: from the gap `limit` on it is far, and from `reach` on between a box and a block's span each of the
 // block is; sums of squares up to `close` are too close.
-#[derive(Drop)]
+#[derive(Clone, Copy)]
 struct Quick {
     limit: f64,
     reach: f64,

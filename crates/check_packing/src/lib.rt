@@ -1,4 +1,7 @@
 // The checker: the findings on a load file, on its bytes. RULES: Findings: words
+
+#![tactic(auto)]
+
 ghost use Rattle.std.specs.Prelude.{◌≡◌, ◌+◌, ◌*◌, ◌≤◌};
 ghost use Rattle.check_words.specs.Wrote.{room_for};
 ghost use Rattle.domain.specs.Bounds.{most_kinds, most_lines, most_unplaced, few_lines, some_lines, some_boxes};
@@ -20,7 +23,7 @@ mod columns;
 mod left;
 
 // The refusal, 0 for none, and how many findings there are.
-#[derive(Drop)]
+#[derive(Clone, Copy)]
 pub struct Checked {
     pub refused: u32,
     pub count: usize,
@@ -35,7 +38,7 @@ fn room(m: usize, n: usize, u: usize) -> usize
 }
 
 // What the lines gave: the words written so far, and the mass.
-#[derive(Drop)]
+#[derive(Clone, Copy)]
 struct Lined {
     words: usize,
     mass: f64,

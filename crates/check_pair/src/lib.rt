@@ -1,4 +1,7 @@
 // The verdict on one pair of boxes, and the checker's tolerance. RULES: Tolerance, Findings: pairs
+
+#![tactic(auto)]
+
 ghost use Rattle.std.specs.Prelude.{◌≡◌, ◌<◌};
 ghost use Rattle.check_root.specs.Hint.{hint_of};
 ghost use Rattle.check_pair.specs.Tolerance.{magnitude, tolerance_of};
@@ -11,13 +14,13 @@ ghost use Rattle.check_pair.specs.Span.{spans_on, spans};
 const NEARLY: f64 = 0.999;
 
 // Where a box lies: its near corner and its far corner.
-#[derive(Drop)]
+#[derive(Clone, Copy)]
 pub struct Extent {
     pub min: [f64; 3],
     pub max: [f64; 3],
 }
 
-#[derive(Drop)]
+#[derive(Clone, Copy)]
 pub enum Verdict {
     Apart,
     Overlap,

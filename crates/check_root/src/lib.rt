@@ -1,4 +1,7 @@
 // The correctly rounded square root of an `f64`, worked out in whole numbers: check.rs takes it of a sum of squares.
+
+#![tactic(auto)]
+
 ghost use Rattle.std.specs.Prelude.{◌≡◌, ◌+◌, ◌*◌, ◌^◌, ◌<◌, ◌≤◌, cond};
 ghost use Rattle.std.specs.Float.{binary64};
 ghost use Rattle.check_root.specs.Root.{near_root};
@@ -6,14 +9,14 @@ ghost use Rattle.check_root.specs.Sqrt.{rounded, sqrt_of, mag};
 ghost use Rattle.check_root.specs.Hint.{hint_of};
 
 // m * 4 ^ g, in units of 4 ^ -1074
-#[derive(Drop)]
+#[derive(Clone, Copy)]
 struct Scaled {
     m: u64,
     g: u64,
 }
 
 // A root q of q * q + r, and what is left, r.
-#[derive(Drop)]
+#[derive(Clone, Copy)]
 struct Part {
     q: u64,
     r: u64,
@@ -121,7 +124,7 @@ fn near_root(m: u64) -> u64
 }
 
 // h * 2^52 + t
-#[derive(Drop)]
+#[derive(Clone, Copy)]
 struct Square {
     h: u64,
     t: u64,

@@ -1,6 +1,8 @@
 // Checks a load sheet: a load file on standard input, its findings on standard output, a line each.
-use libc::{STDIN_FILENO, STDOUT_FILENO};
-use program_io::BYTES;
+
+#![tactic(auto)]
+
+use program_io::{BYTES, STDIN_FILENO, STDOUT_FILENO};
 
 // The findings that there is room for, and their words, five to a finding.
 const SLOTS: usize = 1600;
@@ -82,10 +84,10 @@ fn write_answer(f: &[u8]) -> bool {
     write_findings(&words, count)
 }
 
-fn main() {
+fn main(rt: HostRuntime) {
     let mut bytes = [0u8; BYTES];
     let n = io::read_full(STDIN_FILENO, &mut bytes);
-    if program_io::broken_off(n) {
+    if program_io::broken_off(rt.stdin(), n) {
         program_io::tell_unread();
         return;
     }

@@ -1,4 +1,7 @@
 // What the parts of the checker share: a finding written into lent cells, and the box of a line.
+
+#![tactic(auto)]
+
 ghost use Rattle.std.specs.Prelude.{◌≡◌, [], ◌∷◌, ◌+◌, ◌<◌};
 ghost use Rattle.check_words.specs.Words.{only_if};
 ghost use Rattle.check_words.specs.Wrote.{Wrote, Given, most_words};

@@ -1,4 +1,7 @@
 // The stated domain: every bound and range of the planner, once, with the tests on them; and the refusal numbers.
+
+#![tactic(auto)]
+
 ghost use Rattle.std.specs.Prelude.{◌≡◌, ◌<◌};
 ghost use Rattle.domain.specs.Bounds.{most_kinds, place_within};
 ghost use Rattle.domain.specs.Ranges.{is_length, is_measure, is_limit, is_position};

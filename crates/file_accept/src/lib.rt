@@ -1,4 +1,7 @@
 // A load file tested once, on the lent bytes: no sheet is made. Its records are read where they are used.
+
+#![tactic(auto)]
+
 ghost use Rattle.std.specs.Prelude.{◌≡◌, ◌<◌};
 ghost use Rattle.domain.specs.Refusals.{first_below};
 ghost use Rattle.sheet.specs.Sheets.{line_fault_in, sheet_refusal};
@@ -13,7 +16,7 @@ use sheet::Counts;
 
 // The refusal that a file gets, 0 for none; how many records each section has, and where the lines start and end. All 0 but
 // the refusal where there is one.
-#[derive(Drop)]
+#[derive(Clone, Copy)]
 pub struct Accepted {
     pub refused: u32,
     pub kinds: usize,

@@ -1,5 +1,8 @@
 // Little-endian numbers in bytes: read at a place, and stored there. Every call takes every input: a byte past the end reads as 0, and a
 // number that has no room is not stored.
+
+#![tactic(auto)]
+
 ghost use Rattle.std.specs.Prelude.{◌≡◌, ◌+◌, ◌*◌, ◌≤◌, ◌<◌, ◌%◌, ◌/◌, length};
 ghost use Rattle.std.specs.Float.{binary64};
 ghost use Rattle.std.specs.Float.Ieee.{of_bits};

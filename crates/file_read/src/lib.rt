@@ -1,4 +1,7 @@
 // Reading a load file, form 1: bytes to a sheet.
+
+#![tactic(auto)]
+
 ghost use Rattle.std.specs.Prelude.{◌≡◌};
 ghost use Rattle.file_read.specs.Reading.{read_of};
 
@@ -11,7 +14,7 @@ pub mod records;
 mod shape;
 
 // The refusal that a file gets, 0 for none, and the sheet that it says; a refused file says an empty one.
-#[derive(Drop)]
+#[derive(Clone, Copy)]
 pub struct Reading {
     pub refused: u32,
     pub sheet: Sheet,

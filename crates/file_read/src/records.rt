@@ -8,7 +8,7 @@ use measures::{Container, Kind};
 use sheet::{Counts, Line};
 
 // Whether a file has the right shape; and where it has, how many records each section holds and where the lines start and end.
-#[derive(Drop)]
+#[derive(Clone, Copy)]
 pub struct Sections {
     pub right: bool,
     pub many: Counts,

@@ -1,4 +1,7 @@
 // Writing a load file, form 1: a sheet to bytes.
+
+#![tactic(auto)]
+
 ghost use Rattle.std.specs.Prelude.{◌≡◌, length};
 ghost use Rattle.sheet.specs.Columns.{columns};
 ghost use Rattle.file_write.specs.Planned.{over_counts};
@@ -12,7 +15,7 @@ mod plan;
 mod write;
 
 // The refusal of a writing call, 0 for none, and the length of the file: the length written, or with 6 the length needed.
-#[derive(Drop)]
+#[derive(Clone, Copy)]
 pub struct Written {
     pub refused: u32,
     pub length: usize,

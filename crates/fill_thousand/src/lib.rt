@@ -1,4 +1,7 @@
 // The fill per thousand of a load file, worked out in whole numbers on its bytes.
+
+#![tactic(auto)]
+
 ghost use Rattle.std.specs.Prelude.{◌≡◌, ◌*◌, ◌≤◌, true, ◌&&◌, ◌==◌};
 ghost use Rattle.std.specs.Float.Ieee.{le};
 ghost use Rattle.domain.specs.Bounds.{most_kinds, most_lines};
@@ -15,7 +18,7 @@ ghost use Rattle.fill_thousand.specs.Tabled.{Columns, Small, Loading, volume_if}
 use file_read::records;
 
 // The refusal, 0 for none, and the fill per thousand, 0 where it is refused.
-#[derive(Drop)]
+#[derive(Clone, Copy)]
 pub struct Filled {
     pub refused: u32,
     pub fill: u64,

@@ -1,4 +1,7 @@
 // Binary64 beyond the operators: bit patterns in and out, total at a NaN too, and the larger of two.
+
+#![tactic(auto)]
+
 ghost use Rattle.std.specs.Prelude.{◌≡◌};
 ghost use Rattle.std.specs.Float.{binary64};
 ghost use Rattle.std.specs.Float.Ieee.{nan_bits, of_bits, to_bits};

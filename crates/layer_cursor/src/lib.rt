@@ -1,11 +1,14 @@
 // The layer placer's cursor, and where a box would go next (packing_utils.rs, `LayerCursor` and `spot`). There is no slack anywhere.
+
+#![tactic(auto)]
+
 ghost use Rattle.std.specs.Prelude.{◌≡◌};
 ghost use Rattle.layer_cursor.specs.Spot.{new_row, new_layer, over, spot_of};
 
 use measures::Container;
 
 // The next spot in the open row, the depth of that row, and the height of the open layer.
-#[derive(Drop)]
+#[derive(Clone, Copy)]
 pub struct LayerCursor {
     pub x: f64,
     pub y: f64,
@@ -15,7 +18,7 @@ pub struct LayerCursor {
 }
 
 // A spot that a box can take and the cursor after it; or that it doesn't fit, and the cursor as it was.
-#[derive(Drop)]
+#[derive(Clone, Copy)]
 pub struct LayerSpot {
     pub fits: bool,
     pub at: [f64; 3],

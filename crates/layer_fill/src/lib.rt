@@ -1,5 +1,8 @@
 // The layer placer (packing_utils.rs): boxes go left to right in rows, rows front to back in layers, layers bottom to top. Here is
 // the fill with its placements, one box at a time.
+
+#![tactic(auto)]
+
 ghost use Rattle.std.specs.Prelude.{◌≡◌, ◌<◌};
 ghost use Rattle.domain.specs.Bounds.{most_boxes};
 ghost use Rattle.layer_fill.specs.Fill.{place_refusal, no_lines, count_at_first, noted, answered, opened, placed, placed_best, counted, filled, finished};
@@ -9,7 +12,7 @@ use measures::{Container, Kind};
 use sheet::Line;
 
 // What is placed so far: the first `count` lines. The others hold no box.
-#[derive(Drop)]
+#[derive(Clone, Copy)]
 pub struct LayerFill {
     pub stand: Stand,
     pub count: usize,
@@ -17,34 +20,34 @@ pub struct LayerFill {
 }
 
 // A new fill; or the refusal that its container gets, and a fill that says it holds more than it can, so that every call refuses it by 2.
-#[derive(Drop)]
+#[derive(Clone, Copy)]
 pub struct Opening {
     pub refused: u32,
     pub fill: LayerFill,
 }
 
 // The answer to one box: whether it was placed, and the fill after it.
-#[derive(Drop)]
+#[derive(Clone, Copy)]
 pub struct Placing {
     pub refused: u32,
     pub placed: bool,
     pub next: LayerFill,
 }
 
-#[derive(Drop)]
+#[derive(Clone, Copy)]
 pub struct Count {
     pub refused: u32,
     pub placed: usize,
 }
 
-#[derive(Drop)]
+#[derive(Clone, Copy)]
 pub struct Ratio {
     pub refused: u32,
     pub utilization: f64,
 }
 
 // The placements, the utilization and the count placed.
-#[derive(Drop)]
+#[derive(Clone, Copy)]
 pub struct LayerPlacementResult {
     pub refused: u32,
     pub placed: usize,

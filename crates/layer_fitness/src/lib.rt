@@ -1,8 +1,11 @@
 // The packing fitness (packing_utils.rs, `packing_fitness`).
+
+#![tactic(auto)]
+
 ghost use Rattle.std.specs.Prelude.{◌≡◌, ◌<◌};
 ghost use Rattle.layer_fitness.specs.Fitness.{at_least_one, fitness_refusal, fitness_of, rated_of};
 
-#[derive(Drop)]
+#[derive(Clone, Copy)]
 pub struct Fitness {
     pub refused: u32,
     pub value: f64,

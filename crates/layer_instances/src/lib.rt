@@ -1,4 +1,7 @@
 // The boxes of an order in a load file, one after the other, and the instance list that they make: a record of three words for each box.
+
+#![tactic(auto)]
+
 ghost use Rattle.std.specs.Prelude.{◌≡◌, ◌∷◌, [], ◌+◌, ◌*◌, ◌≤◌, ◌<◌, length};
 ghost use Rattle.std.proofs.lemmas.List.Edits.{sets};
 ghost use Rattle.lists.specs.Rows.{wrote};
@@ -12,7 +15,7 @@ use file_read::records;
 use plan_boxes::Instance;
 
 // How many records or orientations there are. Refusal 6 gives the number that need room.
-#[derive(Drop)]
+#[derive(Clone, Copy)]
 pub struct Built {
     pub refused: u32,
     pub count: usize,

@@ -1,4 +1,7 @@
 // The layer cursor lent mutably: a box that is placed moves it on, and any other answer leaves it as it was.
+
+#![tactic(auto)]
+
 ghost use Rattle.std.specs.Prelude.{◌≡◌};
 ghost use Rattle.layer_lent.specs.Asked.{lengths_fault, asked_fault, asked_spot};
 
@@ -7,7 +10,7 @@ use layer_state::Stand;
 use measures::Container;
 
 // One box for the cursor: the container that it goes into, and its lengths in the orientation that it is to have.
-#[derive(Drop)]
+#[derive(Clone, Copy)]
 pub struct Asked {
     pub container: Container,
     pub size: [f64; 3],
@@ -15,7 +18,7 @@ pub struct Asked {
 
 // The refusal, 0 for none; and where the box goes with the cursor after it, or that it gets no place and the cursor as
 // it was, as after a refusal.
-#[derive(Drop)]
+#[derive(Clone, Copy)]
 pub struct Answer {
     pub refused: u32,
     pub spot: LayerSpot,

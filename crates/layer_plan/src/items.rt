@@ -19,7 +19,7 @@ use plan_sheet::{Told, refused_told};
 const ITEM: usize = 2;
 
 // What an item comes to: its step, and the id and instance of its line, where it has one.
-#[derive(Drop)]
+#[derive(Clone, Copy)]
 struct Tried {
     step: Step,
     id: u32,

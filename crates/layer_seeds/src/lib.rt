@@ -1,4 +1,7 @@
 // The orientation that the lines of a load file give to each instance of a list (packing_utils.rs, `seed_orientations`).
+
+#![tactic(auto)]
+
 ghost use Rattle.std.specs.Prelude.{◌≡◌, cond, length};
 ghost use Rattle.lists.specs.Table.{filled};
 ghost use Rattle.file_read.specs.Form.{lines_start, counts_of};

@@ -7,7 +7,7 @@ use layer_cursor::{LayerCursor, LayerSpot, spot};
 use measures::{Container, Kind};
 
 // The best orientation among those tried so far, with its score, if a box fits in one.
-#[derive(Drop)]
+#[derive(Clone, Copy)]
 pub(crate) struct Best {
     found: bool,
     orientation: u32,

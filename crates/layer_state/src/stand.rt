@@ -6,7 +6,7 @@ use layer_cursor::{LayerCursor, LayerSpot, spot};
 use measures::{Container, Kind};
 
 // The container with its far limits, where the cursor is, and the volume and mass of what is placed.
-#[derive(Drop)]
+#[derive(Clone, Copy)]
 pub struct Stand {
     pub container: Container,
     pub max: [f64; 3],
@@ -16,7 +16,7 @@ pub struct Stand {
 }
 
 // What an offer of one box comes to: its orientation, its position and the stand after it; or no, and the stand as it was.
-#[derive(Drop)]
+#[derive(Clone, Copy)]
 pub struct Step {
     pub fits: bool,
     pub orientation: u32,

@@ -1,4 +1,7 @@
 // Kinds of boxes, the container, and the lengths of a box in each orientation (geometry.rs, boundary.rs).
+
+#![tactic(auto)]
+
 ghost use Rattle.std.specs.Prelude.{◌≡◌, ◌≤◌, ◌<◌, [], length, get_or};
 ghost use Rattle.measures.specs.Orders.{orders, share_of, turned, lengths_in};
 ghost use Rattle.measures.specs.Among.{all_turned, lengths_among};
@@ -8,7 +11,7 @@ ghost use Rattle.measures.specs.Faults.{record_fault, measure_fault, kind_fault,
 
 // A kind of box, field by field as a kind record of the load file. `rule` is 0 for any orientation, 1 for upright and 2
 // for fixed; `massed` is 1 where the kind has a mass; `filler` is what the record's last two bytes hold.
-#[derive(Drop)]
+#[derive(Clone, Copy)]
 pub struct Kind {
     pub id: u32,
     pub quantity: u32,
@@ -20,7 +23,7 @@ pub struct Kind {
 }
 
 // The container block of the load file. A limit of +0 is none.
-#[derive(Drop)]
+#[derive(Clone, Copy)]
 pub struct Container {
     pub size: [f64; 3],
     pub margin: f64,

@@ -1,6 +1,6 @@
 // A plan as lines of text on standard output, read off the planned sheet. Each function answers whether it could write.
 use file_read::records;
-use libc::STDOUT_FILENO;
+use program_io::STDOUT_FILENO;
 use sheet::Line;
 
 fn put(t: &[u8]) -> bool {

@@ -1,12 +1,20 @@
 // The planner: an order, a load file, on standard input; the planned sheet on standard output, or with `list` the plan as text.
+
+#![tactic(auto)]
+
+ghost use Rattle.io.specs.Counts.{IsPrefixLen};
+
 mod list; // list.rt: a plan as text
 mod words; // words.rt: the words that the planner is started with
 
-use libc::{STDERR_FILENO, STDIN_FILENO, STDOUT_FILENO};
-use program_io::BYTES;
+use program_io::{BYTES, STDERR_FILENO, STDIN_FILENO, STDOUT_FILENO};
+use std::env::{Env, FillError};
 
 // Longer than any word that is understood.
 const LETTERS: usize = 64;
+
+// The most words that the planner understands: its own name, an engine, a number and `list`.
+const MOST_WORDS: usize = 4;
 
 fn refuse(refused: u64) {
     io::write_all(STDERR_FILENO, b"refused ");
@@ -60,24 +68,53 @@ fn write_plan(order: &[u8], layers: bool, consider: u64, listed: bool) -> bool {
     put_first(&sheet, length)
 }
 
-fn run(layers: bool, consider: u64, listed: bool) {
+fn run(rt: &HostRuntime, layers: bool, consider: u64, listed: bool) {
     let mut bytes = [0u8; BYTES];
     let n = io::read_full(STDIN_FILENO, &mut bytes);
-    if program_io::broken_off(n) {
+    if program_io::broken_off(rt.stdin(), n) {
         program_io::tell_unread();
         return;
     }
     program_io::tell_unwritten(write_plan(&bytes[..n], layers, consider, listed));
 }
 
-fn main() {
+// Puts word i at the start of `word` and answers its length: 0 where there is none, or where it is longer.
+fn word_at(rt: &HostRuntime, i: usize, word: &mut [u8; LETTERS]) -> usize
+    ensures { IsPrefixLen result word.new }
+{
+    match rt.arg(i, word) {
+        Ok(n) => n,
+        Err(_) => 0,
+    }
+}
+
+// Whether there is a word i, of any length.
+fn is_given(rt: &HostRuntime, i: usize) -> bool {
+    let mut word = [0u8; LETTERS];
+    match rt.arg(i, &mut word) {
+        Err(FillError::NotPresent) => false,
+        _ => true,
+    }
+}
+
+// How many words there are, with the program's own name. Past one word too many none is counted.
+fn count_given(rt: &HostRuntime) -> usize {
+    for n in 0..MOST_WORDS + 1 {
+        if !is_given(rt, n) {
+            return n;
+        }
+    }
+    MOST_WORDS + 1
+}
+
+fn main(rt: HostRuntime) {
     let mut first = [0u8; LETTERS];
     let mut second = [0u8; LETTERS];
     let mut third = [0u8; LETTERS];
-    let i = os::arg(1, &mut first);
-    let j = os::arg(2, &mut second);
-    let k = os::arg(3, &mut third);
-    let asked = words::asked_by(&first[..i], &second[..j], &third[..k], os::arg_count());
+    let i = word_at(&rt, 1, &mut first);
+    let j = word_at(&rt, 2, &mut second);
+    let k = word_at(&rt, 3, &mut third);
+    let asked = words::asked_by(&first[..i], &second[..j], &third[..k], count_given(&rt));
     if !asked.right {
         io::write_all(
             STDERR_FILENO,
@@ -85,5 +122,5 @@ fn main() {
         );
         return;
     }
-    run(asked.layers, asked.consider, asked.list);
+    run(&rt, asked.layers, asked.consider, asked.list);
 }

@@ -1,7 +1,7 @@
 // The words that the planner is started with: an engine, then perhaps a number to consider, then perhaps `list`.
 
 // What is asked. Where the words are wrong, nothing is.
-#[derive(Drop)]
+#[derive(Clone, Copy)]
 pub(crate) struct Asked {
     pub(crate) right: bool,
     pub(crate) layers: bool,

@@ -1,12 +1,15 @@
 // The boxes of an order in listing order: each kind's instances in turn, then the next kind's. Both placers begin with it
 // (packing_utils.rs, `build_instances`; extreme_point.rs, the loops that open `run_ep_packing`).
+
+#![tactic(auto)]
+
 ghost use Rattle.std.specs.Prelude.{◌≡◌, ◌<◌};
 ghost use Rattle.plan_boxes.specs.Files.{next_box, boxes_from};
 
 use file_read::records;
 
 // One box: its kind's place in the order, and which one of that kind it is.
-#[derive(Drop)]
+#[derive(Clone, Copy)]
 pub struct Instance {
     pub kind: usize,
     pub instance: u32,

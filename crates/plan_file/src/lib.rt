@@ -1,4 +1,7 @@
 // The plan of an order, laid by either placer and written as a load file from the order's bytes, with its answer in one word. RULES: Plans, Boundary
+
+#![tactic(auto)]
+
 ghost use Rattle.sheet.specs.Columns.{columns};
 ghost use Rattle.point_run.specs.Runs.{ep_packing_of};
 ghost use Rattle.layer_plan.specs.Fills.{layer_fill_of};

@@ -1,4 +1,7 @@
 // The runs of the placers over the order in a load file, handed out into lent words, six to a line. A run lays its plan in columns of its own.
+
+#![tactic(auto)]
+
 ghost use Rattle.sheet.specs.Columns.{columns};
 ghost use Rattle.plan_sheet.specs.Laid.{plan_in};
 ghost use Rattle.point_run.specs.Runs.{ep_packing_of};

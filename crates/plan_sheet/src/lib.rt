@@ -1,5 +1,8 @@
 // A finished plan, which both placers give: the lines placed, how many boxes were considered, the utilization and the unplaced list. The lines stand in
 // lent columns; here they are handed out into words that the caller lends.
+
+#![tactic(auto)]
+
 ghost use Rattle.std.specs.Prelude.{◌≡◌, ◌+◌, ◌≤◌, length};
 ghost use Rattle.std.proofs.lemmas.List.Edits.{sets};
 ghost use Rattle.plan_sheet.specs.Plans.{plan_refusal};
@@ -12,7 +15,7 @@ pub use columns::{hand_columns, refused_told};
 use sheet::Line;
 
 // A plan handed out, its lines in lent words: the first `unplaced` ids are those left over. `needed` is how many lines room must be lent for.
-#[derive(Drop)]
+#[derive(Clone, Copy)]
 pub struct Packed {
     pub refused: u32,
     pub needed: usize,
@@ -24,7 +27,7 @@ pub struct Packed {
 }
 
 // What is told of a plan whose lines stand in lent columns.
-#[derive(Drop)]
+#[derive(Clone, Copy)]
 pub struct Told {
     pub refused: u32,
     pub considered: u64,

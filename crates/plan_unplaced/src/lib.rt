@@ -1,5 +1,8 @@
 // The unplaced list: the kinds of which fewer distinct instances are placed than they have, each once, in kind order.
 // Both placers and the checker go by the same count.
+
+#![tactic(auto)]
+
 ghost use Rattle.std.specs.Prelude.{◌≡◌, true, false, ◌≤◌, ◌<◌, length, get_or, set};
 ghost use Rattle.domain.specs.Bounds.{most_kinds, most_lines};
 ghost use Rattle.plan_unplaced.specs.Short.{distinct_placed, is_short};
@@ -11,7 +14,7 @@ mod in_file; // in_file.rt: the list of an order in a load file
 pub use in_file::{left_in, unplaced_list};
 
 // The first `count` ids.
-#[derive(Drop)]
+#[derive(Clone, Copy)]
 pub struct Left {
     pub refused: u32,
     pub count: usize,

@@ -1,5 +1,8 @@
 // The tests of the extreme-point placer on one point and one box: floats alone, sums in the Rust's order, and no store
 // (extreme_point.rs: `fits_at`, the heap's order, `add_ep_if_valid`).
+
+#![tactic(auto)]
+
 ghost use Rattle.std.specs.Prelude.{◌≡◌};
 ghost use Rattle.point_fit.specs.Fit.{room_of, in_room, apart, far_wall, near_wall};
 ghost use Rattle.point_fit.specs.Sooner.{sooner};
@@ -9,7 +12,7 @@ use domain::SLACK;
 use measures::Container;
 
 // What a box must lie between: `least` on every axis, and `most`.
-#[derive(Drop)]
+#[derive(Clone, Copy)]
 pub struct Room {
     pub least: f64,
     pub most: [f64; 3],

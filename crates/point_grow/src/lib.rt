@@ -1,5 +1,8 @@
 // The stores after a box has been placed: its point goes, up to three new ones come, and the box stands (extreme_point.rs:
 // `generate_new_eps`, `add_ep_if_valid`).
+
+#![tactic(auto)]
+
 ghost use Rattle.std.specs.Prelude.{◌≡◌, ◌+◌, ◌*◌, ◌≤◌, ◌<◌, ltb, length};
 ghost use Rattle.point_state.specs.Triples.{three};
 ghost use Rattle.point_fit.specs.Ends.{buries};
@@ -11,7 +14,7 @@ use point_fit::{below_ends, buries, ends_of, past_of};
 use point_state::{put_triple, triple_at};
 
 // Which of the three new points of a placed box are kept, and where their moved axes end.
-#[derive(Drop)]
+#[derive(Clone, Copy)]
 struct Corners {
     alongx: bool,
     alongy: bool,

@@ -1,5 +1,8 @@
 // The order in which a run of the first placer takes the boxes: by falling volume, equal volumes in listing order. What is
 // sorted are the boxes' places in the listing. RULES: First placer: run
+
+#![tactic(auto)]
+
 ghost use Rattle.std.specs.Prelude.{◌≡◌, ◌≤◌, ◌<◌, length, get_or, take};
 ghost use Rattle.std.specs.Float.{nan};
 ghost use Rattle.point_order.specs.Order.{lesser, Falls};

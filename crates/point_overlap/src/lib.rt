@@ -1,4 +1,7 @@
 // Whether two placed boxes overlap (extreme_point.rs, `PlacedBox::overlaps`).
+
+#![tactic(auto)]
+
 ghost use Rattle.std.specs.Prelude.{◌≡◌};
 ghost use Rattle.point_overlap.specs.Overlap.{max_corner, box_fault, overlapping, overlap_of};
 
@@ -6,7 +9,7 @@ use domain::SLACK;
 use point_state::{PlacedBox, sum3};
 
 // The refusal of two boxes, 0 for none, and whether they overlap.
-#[derive(Drop)]
+#[derive(Clone, Copy)]
 pub struct Overlap {
     pub refused: u32,
     pub holds: bool,

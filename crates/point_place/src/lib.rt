@@ -1,4 +1,7 @@
 // The place call of the extreme-point placer (extreme_point.rs, `try_place`).
+
+#![tactic(auto)]
+
 ghost use Rattle.std.specs.Prelude.{◌≡◌, ◌+◌, ◌<◌};
 ghost use Rattle.domain.specs.Bounds.{most_boxes};
 ghost use Rattle.point_state.specs.Triples.{most_points};
@@ -9,7 +12,7 @@ use measures::Kind;
 use point_state::{ExtremePointSet, Label};
 
 // What a place call answers. `NoRoom` is no refusal: no stored point takes the box.
-#[derive(Drop)]
+#[derive(Clone, Copy)]
 pub enum Answer {
     Stands,
     NoRoom,
@@ -17,7 +20,7 @@ pub enum Answer {
 }
 
 // A place call's answer, the box's position where it stands, and the state after it.
-#[derive(Drop)]
+#[derive(Clone, Copy)]
 pub struct Tried {
     pub answer: Answer,
     pub at: [f64; 3],

@@ -1,25 +1,28 @@
 // The calls that only read a state's counts and boxes. One whose counts are over the bounds is refused by 2, and what stands
 // beside the refusal is zero; its floats are not tested.
+
+#![tactic(auto)]
+
 ghost use Rattle.std.specs.Prelude.{◌≡◌, eqb};
 ghost use Rattle.point_state.specs.Counts.{over};
 ghost use Rattle.point_reads.specs.Reads.{counted, flagged, none_found, placed_at};
 
 use point_state::{ExtremePointSet, PlacedBox, over_counts, triple_at};
 
-#[derive(Drop)]
+#[derive(Clone, Copy)]
 pub struct Count {
     pub refused: u32,
     pub count: usize,
 }
 
-#[derive(Drop)]
+#[derive(Clone, Copy)]
 pub struct Flag {
     pub refused: u32,
     pub holds: bool,
 }
 
 // A placed box, if there is one of this number; where none is found the box has no size.
-#[derive(Drop)]
+#[derive(Clone, Copy)]
 pub struct Found {
     pub refused: u32,
     pub found: bool,

@@ -1,5 +1,8 @@
 // The run of the extreme-point placer over a load file's order (extreme_point.rs, `run_ep_packing`): the file is tested once, the stores are lent to the
 // placer in one of two sizes, and each placed box is a cell of the lent columns.
+
+#![tactic(auto)]
+
 ghost use Rattle.std.specs.Prelude.{◌≡◌, ◌≤◌, length};
 ghost use Rattle.domain.specs.Bounds.{few_boxes};
 ghost use Rattle.file_read.specs.Reading.{sheet_of};
@@ -25,7 +28,7 @@ const FEW_POINTS: usize = 1 + 2 * domain::FEW_BOXES;
 const FEW_CELLS: usize = 3 * FEW_POINTS;
 
 // How many boxes stand, and their volume.
-#[derive(Drop)]
+#[derive(Clone, Copy)]
 struct Stand {
     held: usize,
     volume: f64,
@@ -237,7 +240,7 @@ fn lay_many(
 
 // What is found out of an order before a box is laid: that the file or the columns are refused, or how many boxes there are and how many
 // of them are considered.
-#[derive(Drop)]
+#[derive(Clone, Copy)]
 struct Asking {
     refused: u32,
     all: usize,

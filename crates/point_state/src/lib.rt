@@ -1,5 +1,8 @@
 // The extreme-point placer's state (extreme_point.rs, `ExtremePointSet` and `PlacedBox`), by value: a fresh one, its stores, and
 // the bounds of its counts.
+
+#![tactic(auto)]
+
 ghost use Rattle.std.specs.Prelude.{◌≡◌, cond};
 ghost use Rattle.point_state.specs.Boxes.{mass_with};
 ghost use Rattle.point_state.specs.Counts.{over_counts};
@@ -16,7 +19,7 @@ pub const POINTS: usize = 1 + 2 * domain::MOST_BOXES;
 pub const CELLS: usize = 3 * POINTS;
 
 // What a placed box is known by: its kind's id, its instance, and its mass where `massed` is not 0.
-#[derive(Drop)]
+#[derive(Clone, Copy)]
 pub struct Label {
     pub id: u32,
     pub instance: u32,
@@ -26,7 +29,7 @@ pub struct Label {
 
 // The state: `live` points are stored, and `held` boxes are placed. Point k is triple k of `points`; placed box i has its
 // position in triple 2i of `boxes` and its dimensions in triple 2i + 1.
-#[derive(Drop)]
+#[derive(Clone, Copy)]
 pub struct ExtremePointSet {
     pub container: Container,
     pub live: usize,
@@ -37,7 +40,7 @@ pub struct ExtremePointSet {
 }
 
 // A placed box: `mass` counts where `massed` is not 0.
-#[derive(Drop)]
+#[derive(Clone, Copy)]
 pub struct PlacedBox {
     pub id: u32,
     pub instance: u32,
@@ -48,7 +51,7 @@ pub struct PlacedBox {
 }
 
 // A fresh state, and the refusal of its container, 0 for none.
-#[derive(Drop)]
+#[derive(Clone, Copy)]
 pub struct Fresh {
     pub refused: u32,
     pub set: ExtremePointSet,

@@ -1,5 +1,8 @@
 // One box of the run (extreme_point.rs, the body of `run_ep_packing`'s loop): where it is not too heavy, it goes to the least
 // point that takes it in the first of its kind's orientations that some point takes. The stores are lent; nothing is copied.
+
+#![tactic(auto)]
+
 ghost use Rattle.point_step.specs.Step.{stores, StepIs};
 
 mod turns; // turns.rt: the orientation and the point of a box
@@ -8,7 +11,7 @@ use crate::turns::{has_spare, pick, too_heavy};
 use measures::{Container, Kind};
 
 // The point and the orientation found for a box, if any.
-#[derive(Drop)]
+#[derive(Clone, Copy)]
 pub struct Pick {
     pub found: bool,
     pub index: usize,
@@ -16,7 +19,7 @@ pub struct Pick {
 }
 
 // Whether the box stands, in which orientation, and how many points are stored after it.
-#[derive(Drop)]
+#[derive(Clone, Copy)]
 pub struct Stood {
     pub found: bool,
     pub orientation: u32,

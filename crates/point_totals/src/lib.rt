@@ -1,5 +1,8 @@
 // The totals over the placed boxes of a state, from +0 in the order placed. A state whose counts are over the bounds is refused
 // by 2.
+
+#![tactic(auto)]
+
 ghost use Rattle.std.specs.Prelude.{◌≡◌, ◌≤◌};
 ghost use Rattle.domain.specs.Bounds.{most_boxes};
 ghost use Rattle.point_state.specs.Boxes.{volume_below, mass_below, total_volume, total_mass};
@@ -8,7 +11,7 @@ ghost use Rattle.point_totals.specs.Totals.{amounted};
 
 use point_state::{CELLS, ExtremePointSet, Label, mass_with, over_counts, triple_at};
 
-#[derive(Drop)]
+#[derive(Clone, Copy)]
 pub struct Amount {
     pub refused: u32,
     pub amount: f64,

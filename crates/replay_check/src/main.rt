@@ -1,4 +1,7 @@
 // Replays the sample of checks: the findings on a sheet word by word, with room for all of them and for too few.
+
+#![tactic(auto)]
+
 use check_packing::Checked;
 use sheet::Sheet;
 

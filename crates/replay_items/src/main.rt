@@ -1,5 +1,8 @@
 // Replays the sample of items: items placed by a given list of instances, instance lists, the orientations that lines give to
 // one, fitness, and unplaced lists.
+
+#![tactic(auto)]
+
 mod records; // records.rt: instance lists, and orientations for one
 mod placed; // placed.rt: items placed in the given order and orientations
 mod words; // words.rt: lists of numbers in the sample

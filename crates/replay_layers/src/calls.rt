@@ -5,7 +5,7 @@ use measures::Kind;
 use sheet::{Line, Sheet};
 
 // Whether all was as expected so far, the fill, and the place of what comes next.
-#[derive(Drop)]
+#[derive(Clone, Copy)]
 struct Progress {
     same: bool,
     fill: LayerFill,

@@ -1,4 +1,7 @@
 // Replays the sample of the layer placer: whole fills, calls of `place` and `place_best` one by one, and spots at any cursor.
+
+#![tactic(auto)]
+
 mod calls; // calls.rt: a new fill and the boxes offered to it
 mod cursors; // cursors.rt: cursors, and the spot at any of them
 mod fills; // fills.rt: whole fills in listing order

@@ -1,6 +1,11 @@
 // Replays the samples of load files: the refusal that each gets, and that writing what was read gives the same bytes.
+
+#![tactic(auto)]
+
 use file_write::Written;
 use sheet::Sheet;
+use std::fs::File;
+use std::os::fd::AsRawFd;
 
 // What stands in lent bytes that no call is to change.
 const UNTOUCHED: u8 = 165;
@@ -100,9 +105,10 @@ fn replay(fd: i32, name: &[u8]) {
     replay_vectors::report(name, &buf[..n], t);
 }
 
-fn main() {
+fn main(rt: HostRuntime) {
     replay(0, b"load");
-    let fd = os::open_read(b"load_long.bin");
-    replay(fd, b"load_long");
-    libc::close(fd);
+    match File::open(&rt, "load_long.bin") {
+        Ok(file) => replay(file.as_raw_fd(), b"load_long"),
+        Err(_) => replay(-1, b"load_long"),
+    }
 }

@@ -1,4 +1,7 @@
 // Replays the sample of measures: how many orientations a kind may take, its lengths in one, and volumes.
+
+#![tactic(auto)]
+
 use measures::Kind;
 
 // What is expected stands at `at`.

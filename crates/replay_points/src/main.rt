@@ -1,5 +1,8 @@
 // Replays the sample of the extreme-point placer's runs: placements, counts and utilization, with as many words lent as they
 // need, with more, and with one less.
+
+#![tactic(auto)]
+
 use plan_sheet::Packed;
 
 // Runs with n words lent.

@@ -6,7 +6,7 @@ use point_state::ExtremePointSet;
 use sheet::Sheet;
 
 // Whether all was as expected so far, the state, and the place of what comes next.
-#[derive(Drop)]
+#[derive(Clone, Copy)]
 struct Progress {
     same: bool,
     set: ExtremePointSet,

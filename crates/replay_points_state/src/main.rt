@@ -1,5 +1,8 @@
 // Replays the sample of the extreme-point placer's state: calls of `try_place`, the points stored after them, and pairs of
 // boxes that overlap or don't.
+
+#![tactic(auto)]
+
 use point_state::PlacedBox;
 
 mod calls; // calls.rt: a fresh state and the boxes tried in it

@@ -1,4 +1,7 @@
 // Whether what a call handed out, in part into lent words, is what a sample expects.
+
+#![tactic(auto)]
+
 ghost use Rattle.std.specs.Prelude.{◌≡◌, not, length, get_or};
 ghost use Rattle.lists.specs.Below.{any_below};
 ghost use Rattle.replay_results.specs.Results.{none, turns, id_at, id_turn, same_number, same_word, same_name, same_spot, same_line, line_turn, changed};
@@ -13,7 +16,7 @@ pub const WORDS: usize = (domain::MOST_LINES + 2) * plan_sheet::WORDS;
 pub const UNTOUCHED: u64 = 11936128518282651045;
 
 // Whether all was the same so far, and the places of what comes next in the sample and among the words.
-#[derive(Drop)]
+#[derive(Clone, Copy)]
 pub struct Seen {
     pub same: bool,
     pub at: usize,

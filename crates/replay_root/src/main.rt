@@ -1,5 +1,7 @@
 // Replays the sample of square roots, bit by bit.
 
+#![tactic(auto)]
+
 // Whether the root of the float at `at` is the one beside it.
 fn pair(b: &[u8], at: usize) -> bool {
     let x = floats::of_bits(replay_vectors::u64_at(b, at));

@@ -1,5 +1,8 @@
 // A sample's bytes: numbers, floats and parts of it at a place, and whether floats there are those given. Numbers are those of `file_bytes`. A
 // place past the end gives 0, or a part that is shorter.
+
+#![tactic(auto)]
+
 ghost use Rattle.std.specs.Prelude.{◌≡◌};
 ghost use Rattle.file_bytes.specs.Bytes.{u32_at};
 ghost use Rattle.replay_sample.specs.Sample.{beyond, part_of, three_at, same_float, same_three};

@@ -1,5 +1,8 @@
 // Reading a sample of cases, each an input and what is expected of it, and counting the cases that differ.
 // A sample is a count and then the cases: a tag, the size of the body, and the body. Numbers are little-endian.
+
+#![tactic(auto)]
+
 ghost use Rattle.std.specs.Prelude.{◌≡◌, ◌%◌, length, replicate, if◌then◌else◌};
 ghost use Rattle.domain.specs.Bounds.{most_kinds};
 ghost use Rattle.sheet.specs.Sheets.{kind_at};
@@ -15,7 +18,7 @@ pub use replay_sample::{
 use sheet::Sheet;
 
 // Where the next case stands, how many were replayed, how many differ, and the first that does, from 1 on.
-#[derive(Drop)]
+#[derive(Clone, Copy)]
 pub struct Tally {
     pub at: usize,
     pub cases: u64,

@@ -1,5 +1,8 @@
 // A load sheet as a value: container, kinds, placement lines and unplaced ids, and the refusal that it gets, if any.
 // An order is a sheet too; whoever plans one tests its lines and unplaced ids and then leaves them aside.
+
+#![tactic(auto)]
+
 ghost use Rattle.std.specs.Prelude.{◌≡◌, ◌≤◌, ◌<◌, get_or};
 ghost use Rattle.domain.specs.Bounds.{most_kinds, most_lines};
 ghost use Rattle.lists.specs.Below.{sum_below};
@@ -12,7 +15,7 @@ ghost use Rattle.sheet.specs.Room.{has_room};
 use measures::{Container, Kind};
 
 // A placement line: instance `instance` of the kind `id`, turned to `orientation`, in case `bin`, its near corner at `at`.
-#[derive(Drop)]
+#[derive(Clone, Copy)]
 pub struct Line {
     pub id: u32,
     pub instance: u32,
@@ -21,7 +24,7 @@ pub struct Line {
     pub at: [f64; 3],
 }
 
-#[derive(Drop)]
+#[derive(Clone, Copy)]
 pub struct Counts {
     pub kinds: usize,
     pub lines: usize,
@@ -29,7 +32,7 @@ pub struct Counts {
 }
 
 // The first `many.kinds` of the kinds count, and so for the lines and the unplaced ids.
-#[derive(Drop)]
+#[derive(Clone, Copy)]
 pub struct Sheet {
     pub many: Counts,
     pub container: Container,

@@ -1,6 +1,8 @@
 // The fill per thousand of a load sheet: a load file on standard input, one line on standard output.
-use libc::{STDIN_FILENO, STDOUT_FILENO};
-use program_io::BYTES;
+
+#![tactic(auto)]
+
+use program_io::{BYTES, STDIN_FILENO, STDOUT_FILENO};
 
 fn say(word: &[u8], n: u64) -> bool {
     let told = io::write_all(STDOUT_FILENO, word);
@@ -20,10 +22,10 @@ fn write_answer(f: &[u8]) -> bool {
     say(b"fill ", fill)
 }
 
-fn main() {
+fn main(rt: HostRuntime) {
     let mut bytes = [0u8; BYTES];
     let n = io::read_full(STDIN_FILENO, &mut bytes);
-    if program_io::broken_off(n) {
+    if program_io::broken_off(rt.stdin(), n) {
         program_io::tell_unread();
         return;
     }

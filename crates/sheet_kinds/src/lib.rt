@@ -1,5 +1,8 @@
 // A lent slice of kind records: the total quantity over all kinds, and the first faulty kind with its number.
-ghost use Rattle.std.specs.Prelude.{◌≡◌, ◌≤◌};
+
+#![tactic(auto)]
+
+ghost use Rattle.std.specs.Prelude.{◌≡◌, ◌≤◌, ◌<◌, ◌^◌};
 ghost use Rattle.domain.specs.Bounds.{most_kinds};
 ghost use Rattle.sheet_kinds.specs.Scan.{start_of, added_of, place_after, step_of, finish_of};
 ghost use Rattle.sheet_kinds.specs.Survey.{survey_of};
@@ -7,7 +10,7 @@ ghost use Rattle.sheet_kinds.specs.Survey.{survey_of};
 use measures::Kind;
 
 // What is known of the kinds passed so far: their ids and how many they are, the total, the first number and its place.
-#[derive(Drop)]
+#[derive(Clone, Copy)]
 struct Passed {
     ids: [u32; domain::MOST_KINDS],
     seen: usize,
@@ -18,7 +21,7 @@ struct Passed {
 
 // The total quantity; the number (4, 3 or 5) that the first faulty kind gets, 0 for none; and that kind's place, or the
 // count of kinds where there is none. All 0 where the slice is refused.
-#[derive(Drop)]
+#[derive(Clone, Copy)]
 pub struct Surveyed {
     pub refused: u32,
     pub total: u64,
@@ -63,9 +66,10 @@ fn place_after(fault: u32, place: usize, number: u32, n: usize) -> usize
     n + 1
 }
 
-// One kind more. Past 64 nothing is noted: the slice is refused then.
+// One kind more. Past 64 nothing is noted: the slice is refused then. Its quantity is a number of 32 bits, as that of every kind.
 fn step(p: Passed, k: Kind) -> Passed
-    ensures { result ≡ step_of p k }
+    ensures made { result ≡ step_of p k }
+    ensures small { k.quantity < 2 ^ 32 }
 {
     let n = p.seen;
     if domain::MOST_KINDS <= n {

@@ -1,4 +1,7 @@
 // A float's bits as the programs print them: sixteen upper-case hexadecimal digits.
+
+#![tactic(auto)]
+
 ghost use Rattle.std.specs.Prelude.{◌≡◌, ◌<◌};
 ghost use Rattle.show.specs.Hex.{glyph, hex_of};
 

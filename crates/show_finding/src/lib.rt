@@ -1,4 +1,7 @@
 // A finding as the check program prints it: a line with its name and its fields.
+
+#![tactic(auto)]
+
 ghost use Rattle.std.specs.Prelude.{◌≡◌, ◌+◌, ◌≤◌, length};
 ghost use Rattle.show.specs.Hex.{hex_of};
 ghost use Rattle.show_finding.specs.Decimal.{decimal_of};

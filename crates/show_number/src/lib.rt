@@ -1,4 +1,7 @@
 // A word as a number: how the planner reads the number of boxes to consider.
+
+#![tactic(auto)]
+
 ghost use Rattle.std.specs.Prelude.{◌≡◌, ◌+◌, ◌*◌, ◌≤◌};
 ghost use Rattle.show.specs.Digits.{digit_value, value_of};
 ghost use Rattle.show_number.specs.Number.{most_number, is_digit, is_number, capped, number_of};
@@ -7,7 +10,7 @@ ghost use Rattle.show_number.specs.Number.{most_number, is_digit, is_number, cap
 const MOST: u64 = 1000000;
 
 // Whether a word is a number, and its value; 0 beside a word that is none.
-#[derive(Drop)]
+#[derive(Clone, Copy)]
 pub struct Number {
     pub ok: bool,
     pub value: u64,
