@@ -14,12 +14,12 @@
  * The most stack that a call takes, by a painted stack (tools/test_stack): wk_check 70 KiB, wk_plan_points 240 KiB, wk_plan_layers 52 KiB,
  * wk_fill 4 KiB.
  *
- * `rt staticlib waikurpeho` proves the library and writes target/staticlib/libwaikurpeho.a, for Linux on x86-64; a program is linked with it by
+ * `tools/build_library` proves the library and writes target/staticlib/libwaikurpeho.a, for Linux on x86-64; a program is linked with it by
  *
  *     cc -I include program.c target/staticlib/libwaikurpeho.a
  *
  * For another processor or system there is none to be had: the toolchain compiles for Linux on x86-64 alone, on an Arm machine too. There a program
- * can be built for x86-64 whole and run in an emulator, or run ./waikurpeho, which starts the proved programs in the toolchain's own. The constants,
+ * can be built for x86-64 whole and run in an emulator, as ./waikurpeho runs the proved programs where it finds one. The constants,
  * the structs and wk_write to wk_unplaced_at need no library.
  *
  * bindings/c/example.c builds an order, plans, checks and prints.

@@ -8,7 +8,7 @@ ROOT = os.path.dirname(os.path.dirname(os.path.realpath(__file__)))
 
 
 def folder(words):
-    """The folder of libwaikurpeho.a: the one that is named, else that of `rt staticlib`."""
+    """The folder of libwaikurpeho.a: the one that is named, else that of tools/build_library."""
     return os.path.abspath(words[0]) if words else os.path.join(ROOT, 'target', 'staticlib')
 
 
@@ -32,8 +32,8 @@ def lacking(words, tool, name):
     if not tool:
         return 'there is no %s' % name
     if not os.path.exists(archive(words)):
-        return 'there is no %s: run rt staticlib waikurpeho' % archive(words)
-    # `rt staticlib` writes for x86-64 on every machine; a folder that is named may have another
+        return 'there is no %s: run tools/build_library' % archive(words)
+    # tools/build_library writes for x86-64 on every machine; a folder that is named may have another
     if platform.machine() != 'x86_64' and not words:
         return '%s is for x86-64, and this machine is %s' % (archive(words), platform.machine())
     return ''

@@ -9,10 +9,10 @@ KIT = {'io', 'libc', 'os', 'std', 'check', 'bytes'}
 
 
 class Crate:
-    """A crate by its name, with what crates.txt says of it: what it is for, and what it may use."""
+    """A crate by its name, with what crates.txt says of it: what it is for, what it may use, and whether it is a static library."""
 
-    def __init__(self, name, purpose, deps):
-        self.name, self.purpose, self.deps = name, purpose, deps
+    def __init__(self, name, purpose, deps, is_static=False):
+        self.name, self.purpose, self.deps, self.is_static = name, purpose, deps, is_static
 
     def files(self, folder, ending):
         """The files below a folder of the crate that end so, in a fixed order."""
@@ -49,7 +49,8 @@ def crates():
             said = line[1:].strip()
         elif ':' in line:
             name, deps = line.split(':', 1)
-            found.append(Crate(name.strip(), said, deps.split()))
+            words = name.split()
+            found.append(Crate(words[0], said, deps.split(), 'staticlib' in words[1:]))
             said = ''
         elif not line.strip():
             said = ''

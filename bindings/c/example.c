@@ -1,7 +1,7 @@
 /* Builds an order, plans it with both placers, checks and prints the plan, then moves a box on the sheet and prints what the check finds. From the
  * root of the repository:
  *
- *     rt staticlib waikurpeho
+ *     tools/build_library
  *     cc -I include -o example bindings/c/example.c target/staticlib/libwaikurpeho.a
  *     ./example
  *

@@ -1,4 +1,4 @@
-//! Links libwaikurpeho.a from the folder that WAIKURPEHO_LIB names, else from that of `rt staticlib`.
+//! Links libwaikurpeho.a from the folder that WAIKURPEHO_LIB names, else from that of tools/build_library.
 use std::{env, path::Path};
 
 fn main() {
@@ -9,7 +9,7 @@ fn main() {
     assert!(fits || named.is_ok(), "libwaikurpeho.a is for Linux on x86-64 alone, and this is built for {} on {}", target("OS"), target("ARCH"));
     let folder = named.unwrap_or_else(|_| "../../target/staticlib".into());
     let library = Path::new(&folder).join("libwaikurpeho.a");
-    assert!(library.exists(), "no libwaikurpeho.a in {folder}: run rt staticlib waikurpeho, or set WAIKURPEHO_LIB to its folder");
+    assert!(library.exists(), "no libwaikurpeho.a in {folder}: run tools/build_library, or set WAIKURPEHO_LIB to its folder");
     println!("cargo:rerun-if-changed={}", library.display());
     println!("cargo:rustc-link-search=native={folder}");
     println!("cargo:rustc-link-lib=static=waikurpeho");

@@ -1,6 +1,6 @@
 """The proved programs: where they are, and how they are run. What is missing, or older than its sources, is built.
 
-They are for x86-64; on another processor they run in the toolchain's emulator.
+They are for x86-64; on another processor they run in an emulator, where there is one.
 """
 import functools
 import os
@@ -44,35 +44,32 @@ def prepare(names):
 
 @functools.lru_cache(maxsize=None)
 def runner():
-    """What a program is started through: the toolchain's loader, as rt does it, under the emulator off x86-64."""
+    """What a program is started through: nothing on x86-64, elsewhere an emulator with the toolchain's loader and C library."""
     machine = platform.machine()
-    native = machine in ('x86_64', 'AMD64')
-    home = toolchain()
-    if home:
-        own = os.path.join(home, 'on', machine, 'toolchain')
-        emulator, library = os.path.join(own, 'bin', 'qemu-x86_64'), os.path.join(own, 'lib')
-        loader = [os.path.join(library, 'ld-linux-x86-64.so.2'), '--library-path', library]
-        if os.path.isfile(loader[0]) and (native or os.access(emulator, os.X_OK)):
-            return loader if native else [emulator] + loader
-    if native:
+    if machine in ('x86_64', 'AMD64'):
         return []
+    emulator, home = shutil.which('qemu-x86_64'), toolchain()
+    library = os.path.join(home or '', 'toolchain', 'lib')
+    loader = os.path.join(library, 'ld-linux-x86-64.so.2')
+    if emulator and home and os.path.isfile(loader):
+        return [emulator, loader, '--library-path', library]
     raise Problem('the programs are for x86-64, this machine is %s, and %s' % (
-        machine, 'the toolchain at %s has no emulator for it' % home if home else
-        'rt is not on the PATH: its toolchain has the emulator'))
+        machine, 'rt is not on the PATH: its toolchain has the C library that they need' if not home else
+        'the toolchain at %s has no C library for them' % home if emulator else 'there is no emulator qemu-x86_64 on the PATH'))
 
 
 def toolchain():
-    """The toolchain's folder, which rt knows: its guide stands in docs/ there. None without rt."""
+    """The toolchain's folder, which rt knows: its first page stands there. None without rt."""
     if not shutil.which('rt'):
         return None
     said = subprocess.run(['rt', 'doc'], stdin=subprocess.DEVNULL, stdout=subprocess.PIPE, stderr=subprocess.DEVNULL)
-    guide = said.stdout.decode('utf-8', 'replace').strip()
-    return os.path.dirname(os.path.dirname(guide)) if guide else None
+    page = said.stdout.decode('utf-8', 'replace').strip()
+    return os.path.dirname(page) if page else None
 
 
 def run(name, data, words=()):
     """Gives a program bytes on standard input. What it wrote on standard output, and what on standard error."""
-    # rt clears the emulator's own variables too
+    # an emulator takes variables of its own
     around = {key: value for key, value in os.environ.items() if not key.startswith('QEMU_')}
     try:
         done = subprocess.run(program(name) + list(words), input=data, env=around,

@@ -21,9 +21,9 @@
 //! An order or a sheet goes to the library as a load file, which [`mod@file`] describes byte by byte; [`calls`] has the same calls over bytes. Lengths are
 //! in one unit of your choice, masses too. The calls keep nothing between them, so they may run side by side; one takes at most 240 KiB of stack.
 //!
-//! `rt staticlib waikurpeho` proves the library and writes `target/staticlib/libwaikurpeho.a`, and `WAIKURPEHO_LIB` names its folder where it stands
+//! `tools/build_library` proves the library and writes `target/staticlib/libwaikurpeho.a`, and `WAIKURPEHO_LIB` names its folder where it stands
 //! elsewhere. It is for Linux on x86-64. For another processor or system there is none to be had: the toolchain compiles for Linux on x86-64 alone, on
-//! an Arm machine too; there, build for `x86_64-unknown-linux-gnu` and run in an emulator, or run `./waikurpeho`, which does so itself.
+//! an Arm machine too; there, build for `x86_64-unknown-linux-gnu` and run in an emulator, as `./waikurpeho` does where there is one.
 #![warn(missing_docs)]
 
 pub mod bounds;
