@@ -1,5 +1,5 @@
 -- The findings over a view of a sheet: what they look at, by the number of a line, a kind or an unplaced id. A sheet gives one view
--- (check_packing: viewOf), and the columns that are filled from its bytes hold it.
+-- (check_packing: view_of), and the columns that are filled from its bytes hold it.
 use Rattle.std.specs.Prelude.{ℕ, ◌≡◌, refl, Bool, true, false, cond, ◌&&◌, List, ◌++◌, ltb, get_or, Float}
 use Rattle.std.proofs.Common.{append_assoc, arith}
 use Rattle.lists.specs.Below.{any_below, all_below, is_at}

@@ -1,6 +1,7 @@
 -- Laws on what is gathered from 0 up to a bound: sums, tests, counts and words.
 use Rattle.std.specs.Prelude.{◌≡◌, refl, ◌⊎◌, Bool, true, false, ◌&&◌, ◌||◌, List, [], ◌++◌, ℕ, zero, suc, ◌+◌, ◌-◌, ◌*◌, ◌<◌, ◌≤◌, ltb, eqb, length}
-use Rattle.std.proofs.Common.{sym, ap, ◌∙◌, inl, inr, append-nil, zero-le, not-suc-le-zero, add-zero, zero-add, eq-or-lt_of_le, le_of_suc-le-suc, arith, length-append, ltb-true, ltb-false, lt-ltb, le-ltb, eq-eqb, ne_eqb}
+use Rattle.std.proofs.Common.{sym, ap, ◌∙◌, inl, inr, append-nil, zero-le, not-suc-le-zero, add-zero, zero-add, eq-or-lt_of_le, le_of_suc-le-suc, arith}
+use Rattle.std.proofs.Common.{length-append, ltb-true, ltb-false, lt-ltb, le-ltb, eq-eqb, ne_eqb}
 use Rattle.std.proofs.Math.Bool.{or-true, or-false}
 use Rattle.lists.specs.Below.{any_below, sum_below}
 use Rattle.domain.specs.Refusals.{when}

@@ -66,8 +66,8 @@ just_under = of_bits binary64 0x3FE333332D4B5F1B
 
 -- both are accepted, and they differ only in the order of their lines
 pub two_orders : Reordered (loaded half rising) (loaded half falling)
-unfolding sheet_refusal kind_fault_in line_fault_in line_fault kind_fault container_fault same_id quantity_of or_else first_below any_below sum_below of_bits to_bits
-    of_int lt le neg
+unfolding sheet_refusal kind_fault_in line_fault_in line_fault kind_fault container_fault same_id quantity_of or_else first_below any_below sum_below of_bits
+    to_bits of_int lt le neg
 two_orders =
     record {
       accepted_first = refl;
@@ -86,7 +86,7 @@ pub masses_apart :
     × (findings (loaded half falling) ≡ 9 ∷ 0x3FE3333333333333 ∷ 0x3FE0000000000000 ∷ 0 ∷ 0 ∷ [])
     × (findings (loaded just_under rising) ≡ 9 ∷ 0x3FE3333333333334 ∷ 0x3FE333332D4B5F1B ∷ 0 ∷ 0 ∷ [])
     × (findings (loaded just_under falling) ≡ [])
-unfolding findings findings_of line_found name_words repeat_words box_inside place_words verdict_words verdict_on verdict_found pair_words pair_found pairs_found
-    mass_words mass_found lost_words lost_found wrong_words wrong_found kind_below known kind_for same_as again counted packs packed short is_at mass_below
-    all_below any_below sum_below lengths_in tolerance_of verdict_at distance_of sqrt_of to_bits of_bits of_int lt le neg add sub mul
+unfolding findings findings_of line_found name_words repeat_words box_inside place_words verdict_words verdict_on verdict_found pair_words pair_found
+    pairs_found mass_words mass_found lost_words lost_found wrong_words wrong_found kind_below known kind_for same_as again counted packs packed short is_at
+    mass_below all_below any_below sum_below lengths_in tolerance_of verdict_at distance_of sqrt_of to_bits of_bits of_int lt le neg add sub mul
 masses_apart = (refl, refl, refl, refl)

@@ -81,7 +81,8 @@ name_aside i l b k = go b (in_range l k)
     go true false = refl
     go false r = refl
 
-place_aside : (c : Container) (i : ℕ) (l : Line) (b : Bool) (k : Kind) → change line_aside (place_words c i l b k (box_of l k)) ≡ place_words c 0 l b k (box_of l k)
+place_aside : (c : Container) (i : ℕ) (l : Line) (b : Bool) (k : Kind)
+    → change line_aside (place_words c i l b k (box_of l k)) ≡ place_words c 0 l b k (box_of l k)
 unfolding place_words change
 place_aside c i l b k = go b (leb (length (share_of k.rule)) l.orientation) (ltb 0 l.bin) (box_inside c (tolerance_of c.size) (box_of l k))
   where

@@ -48,7 +48,8 @@ turn_below m n (suc zero) l k = omega arith
 turn_below m n (suc (suc i)) l k = k
 
 module _ {A : Type 0} (d : A) where
-  under_same : (f : ℕ → ℕ) (x y : A) (a b : List A) → x ≡ y → ((i : ℕ) → get_or b (f i) d ≡ get_or a i d) → (i : ℕ) → get_or (y ∷ b) (under f i) d ≡ get_or (x ∷ a) i d
+  under_same : (f : ℕ → ℕ) (x y : A) (a b : List A) → x ≡ y → ((i : ℕ) → get_or b (f i) d ≡ get_or a i d)
+      → (i : ℕ) → get_or (y ∷ b) (under f i) d ≡ get_or (x ∷ a) i d
   under_same f x y a b e h zero = sym e
   under_same f x y a b e h (suc i) = h i
 

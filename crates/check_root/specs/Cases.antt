@@ -1,6 +1,8 @@
 -- `sqrt_of` by the cases of `sqrt`'s tests.
 use Rattle.std.specs.Prelude.{◌≡◌, refl, ℕ, zero, suc, ◌+◌, ◌-◌, ◌*◌, ◌/◌, ◌%◌, ◌^◌, ◌≤◌, ◌<◌, Bool, true, false, ◌&&◌, ◌||◌, cond, T, leb, ltb, eqb, ℤ, Float}
-use Rattle.std.proofs.Common.{sym, ap, ◌∙◌, subst, le_of_eq, lt_of_lt_of_le, not-le_of_lt, lt_irrefl, zero-lt-suc, zero-mul, mul-one, mul-pos, mul_assoc, mul_right_comm, mul-lt-mul_of_pos_right, mul-div_cancel, div-lt_iff_lt-mul, mod-eq_of_lt, eq-zero-or-pos, arith, ltb→lt, eqb→eq, lt→ltb, pow_pos, inl, inr}
+use Rattle.std.proofs.Common.{sym, ap, ◌∙◌, subst, le_of_eq, lt_of_lt_of_le, not-le_of_lt, lt_irrefl, zero-lt-suc, zero-mul, mul-one, mul-pos, mul_assoc}
+use Rattle.std.proofs.Common.{mul_right_comm, mul-lt-mul_of_pos_right, mul-div_cancel, div-lt_iff_lt-mul, mod-eq_of_lt, eq-zero-or-pos, arith, ltb→lt, eqb→eq}
+use Rattle.std.proofs.Common.{lt→ltb, pow_pos, inl, inr}
 use Rattle.std.specs.Bool.{beq}
 use Rattle.std.proofs.Math.Dec.{not_T}
 use Rattle.std.specs.Float.{nan, inf, fin, binary64}

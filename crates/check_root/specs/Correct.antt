@@ -1,7 +1,8 @@
 -- The root is the correctly rounded one: `sqrt_of` is what Squares.antt says by squares of whole numbers, for every number above zero that an
 -- f64 holds (`sqrt_near`), and no other f64 is that (`sqrt_only`).
 use Rattle.std.specs.Prelude.{◌≡◌, refl, ℕ, zero, suc, ◌+◌, ◌-◌, ◌*◌, ◌/◌, ◌%◌, ◌^◌, ◌≤◌, ◌<◌, Bool, true, false, not, T, leb, ltb, eqb, Float}
-use Rattle.std.proofs.Common.{sym, ap, ◌∙◌, subst, le_trans, lt_trans, le_antisymm, lt_irrefl, lt_of_lt_of_le, lt_of_mul-lt-mul_right, zero-lt-suc, mul_assoc, pow-suc, arith, leb→le, ltb→lt, nltb→le, eqb→eq, T_not, lit<, pow-add}
+use Rattle.std.proofs.Common.{sym, ap, ◌∙◌, subst, le_trans, lt_trans, le_antisymm, lt_irrefl, lt_of_lt_of_le, lt_of_mul-lt-mul_right, zero-lt-suc, mul_assoc}
+use Rattle.std.proofs.Common.{pow-suc, arith, leb→le, ltb→lt, nltb→le, eqb→eq, T_not, lit<, pow-add}
 use Rattle.std.proofs.Math.Nat.{pow-le-pow_right}
 use Rattle.std.proofs.Math.Dec.{nleb→lt}
 use Rattle.std.specs.Float.{nan, inf, fin, binary64}

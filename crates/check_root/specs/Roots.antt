@@ -1,6 +1,7 @@
 -- `root n` is the whole part of √n, and 2 * root n + rest n stands to every even number 2 * j as 2√n does.
 use Rattle.std.specs.Prelude.{◌≡◌, ℕ, zero, suc, ◌+◌, ◌-◌, ◌*◌, ◌/◌, ◌^◌, ◌≤◌, ◌<◌, Bool, true, false, not, cond, T, leb, ltb}
-use Rattle.std.proofs.Common.{sym, ap, ◌∙◌, subst, zero-le, le_trans, le_of_lt, le_of_eq, lt_of_lt_of_le, lt_of_le_of_lt, le_antisymm, pow-suc, suc-mul, mul-suc, pow-add, arith, leb→le, ltb→lt, nltb→le, lit≤, lt-ltb, le-ltb}
+use Rattle.std.proofs.Common.{sym, ap, ◌∙◌, subst, zero-le, le_trans, le_of_lt, le_of_eq, lt_of_lt_of_le, lt_of_le_of_lt, le_antisymm, pow-suc, suc-mul}
+use Rattle.std.proofs.Common.{mul-suc, pow-add, arith, leb→le, ltb→lt, nltb→le, lit≤, lt-ltb, le-ltb}
 use Rattle.std.proofs.Math.Dec.{nleb→lt}
 use Rattle.std.specs.Float.Ieee.{size}
 use Rattle.std.specs.Float.Ieee.Digits.{size-lt}

@@ -1,6 +1,7 @@
 -- The bit pattern near_root t + d * 2 ^ 52 is that of `rounded` of t * 4 ^ d, where the root of t has 53 digits.
 use Rattle.std.specs.Prelude.{◌≡◌, ℕ, zero, suc, ◌+◌, ◌-◌, ◌*◌, ◌/◌, ◌^◌, ◌≤◌, ◌<◌, Bool, true, false, T, ℤ, Float}
-use Rattle.std.proofs.Common.{sym, ap, ◌∙◌, subst, inl, inr, le_trans, le_of_eq, lt_of_lt_of_le, lt_of_le_of_lt, eq-or-lt_of_le, mul_assoc, mul-le-mul_left, mul-le-mul_right, mul-div_cancel, le_refl, mul-lt-mul_of_pos_right, zero-add, arith, lit<, pow-add, pow_pos, pow_mono}
+use Rattle.std.proofs.Common.{sym, ap, ◌∙◌, subst, inl, inr, le_trans, le_of_eq, lt_of_lt_of_le, lt_of_le_of_lt, eq-or-lt_of_le, mul_assoc, mul-le-mul_left}
+use Rattle.std.proofs.Common.{mul-le-mul_right, mul-div_cancel, le_refl, mul-lt-mul_of_pos_right, zero-add, arith, lit<, pow-add, pow_pos, pow_mono}
 use Rattle.std.proofs.lemmas.Nat.{shl-shr}
 use Rattle.std.specs.Float.{nan, inf, fin, binary64}
 use Rattle.std.specs.Float.Ieee.{size, up, down, to_bits, of_bits, fits, round}

@@ -9,7 +9,8 @@ use Rattle.std.specs.Prelude.{ℕ, zero, suc, Bool, true, false}
 --   3 a measure or a position (measures: measure_fault, container_fault; sheet: line_fault; layer_fitness: fitness_refusal; layer_lent: asked_fault)
 --   4 a kind record (measures: record_fault)
 --   5 a repeated id (sheet: same_id)
---   6 too few lent slots (file_write: writtenOf; plan_sheet: hand_refusal, fitting; check_packing: check_refusal; layer_instances: build_refusal, seed_refusal)
+--   6 too few lent slots (file_write: written_of; plan_sheet: hand_refusal, fitting; check_packing: check_refusal; layer_instances: build_refusal,
+-- seed_refusal)
 --   7 a full placer (point_place: refusal_of; layer_fill: place_refusal)
 --   8 a length that isn't whole, for the fill per thousand (fill_thousand: fill_refusal)
 --   9 a kind index past the order's kinds, in a given instance list (layer_plan: items_refusal; point_place: fill_refusal)

@@ -97,7 +97,8 @@ pub record Table : Type 0 where
   pub p9 :
       (verdict_of (box (cube none) unit) (box (at (whole 4) (whole 5) (whole 1)) (at (whole 5) (whole 6) (whole 2))) (whole 6) (tolerance_of (cube (whole 10)))
       ≡ TooClose (whole 5))
-      × (verdict_of (box (cube none) unit) (box (at (whole 2) (whole 2) (whole 1)) (at (whole 3) (whole 3) (whole 2))) (whole 6) (tolerance_of (cube (whole 10)))
+      × (verdict_of (box (cube none) unit) (box (at (whole 2) (whole 2) (whole 1)) (at (whole 3) (whole 3) (whole 2)))
+      (whole 6) (tolerance_of (cube (whole 10)))
       ≡ TooClose (of_bits binary64 0x3FF6A09E667F3BCD))
   -- "repeated 1 7 0", "too-close 0 1 3FE0000000000000 3FF0000000000000", "missing 7"
   pub worked_findings :
@@ -106,12 +107,12 @@ pub record Table : Type 0 where
 
 pub table : Table
 unfolding start_of tried_of placed_by refusal_of over_counts kind_fault container_fault lengths_in after_box stock_by put_box corners_of valid free buries
-    below_ends count_with points_with least_of scan_by step_by takes sooner fits_at separated in_room apart three put3 all answered place_refusal took no_lines
-    place_best_of best_of better settled spot_of new_row new_layer checked_of cells_of check_refusal count_of sheet_refusal kind_fault_in line_fault_in line_fault
-    same_id quantity_of first_below findings findings_of line_found name_words repeat_words box_inside place_words verdict_words verdict_found pair_found
-    pairs_found mass_words mass_found lost_words lost_found wrong_words wrong_found kind_below known kind_for same_as again counted packs packed short is_at
-    mass_below all_below any_below sum_below tolerance_of verdict_at distance_of sqrt_of or_else lt le eq add sub mul sum round units odd size of_bits to_bits
-    of_fields neg span climb count_trailing_zeros
+    below_ends count_with points_with least_of scan_by step_by takes sooner fits_at separated in_room apart three put3 all answered place_refusal took
+    no_lines place_best_of best_of better settled spot_of new_row new_layer checked_of cells_of check_refusal count_of sheet_refusal kind_fault_in
+    line_fault_in line_fault same_id quantity_of first_below findings findings_of line_found name_words repeat_words box_inside place_words verdict_words
+    verdict_found pair_found pairs_found mass_words mass_found lost_words lost_found wrong_words wrong_found kind_below known kind_for same_as again counted
+    packs packed short is_at mass_below all_below any_below sum_below tolerance_of verdict_at distance_of sqrt_of or_else lt le eq add sub mul sum round
+    units odd size of_bits to_bits of_fields neg span climb count_trailing_zeros
 table =
     record {
       p1 = (refl, refl);

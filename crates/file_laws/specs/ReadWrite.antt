@@ -14,7 +14,8 @@ use Rattle.file_bytes.specs.Bytes.{word, float, u64_at, f64_at, u32_out, part}
 use Rattle.file_bytes.specs.Layout.{fields_at}
 use Rattle.file_read.specs.Form.{block_fields, kind_fields, line_fields, trailer_fields, block_bytes, kind_bytes, line_bytes, id_bytes, trailer_bytes}
 use Rattle.file_read.specs.Form.{trailer, trailer_of, lines_start, unplaced_start, trailer_start, right_shape, counts_of}
-use Rattle.file_read.specs.Reading.{container_of, kind_of, line_of, container_from, kind_from, line_from, kind_place, kinds_of, lines_of, ids_of, sheet_of, refusal_of}
+use Rattle.file_read.specs.Reading.{container_of, kind_of, line_of, container_from, kind_from, line_from, kind_place, kinds_of, lines_of, ids_of, sheet_of}
+use Rattle.file_read.specs.Reading.{refusal_of}
 use Rattle.file_read.specs.Refusal.{sheet_sound}
 use Rattle.file_write.specs.Writing.{bits_of, container_numbers, kind_numbers, line_numbers, trailer_numbers, container_out, kind_out, line_out, trailer_out}
 use Rattle.file_write.specs.Writing.{kinds_out, lines_out, ids_out, lines_from, unplaced_from, trailer_from, file_of}

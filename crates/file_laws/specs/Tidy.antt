@@ -107,7 +107,8 @@ first_same g h zero e = refl
 first_same g h (suc n) e = rw (first_same g h n (fewer n e), e n (omega arith))
 
 -- and so does the fault of a kind, which looks at earlier ones
-pub fault_same : (a b : List Kind) (n : ℕ) → ((k : ℕ) → k < n → get_or a k no_kind ≡ get_or b k no_kind) → (k : ℕ) → k < n → kind_fault_in a k ≡ kind_fault_in b k
+pub fault_same : (a b : List Kind) (n : ℕ) → ((k : ℕ) → k < n → get_or a k no_kind ≡ get_or b k no_kind)
+    → (k : ℕ) → k < n → kind_fault_in a k ≡ kind_fault_in b k
 unfolding kind_fault_in same_id
 fault_same a b n e k l = rw (any_same (same_id a k) (same_id b k) k (λ j m. rw (e j (omega arith), e k l)), e k l)
 

@@ -48,7 +48,8 @@ unplaced_in f start i =
 
 -- ---- what the sections say
 
-pub sections_right : (f : List ℕ) → right_shape f ≡ true → sections_of f ≡ record { right = true; many = counts_of f; start = lines_start f; end = unplaced_start f }
+pub sections_right : (f : List ℕ) → right_shape f ≡ true
+    → sections_of f ≡ record { right = true; many = counts_of f; start = lines_start f; end = unplaced_start f }
 unfolding sections_of
 sections_right f h = rw h
 
@@ -128,7 +129,8 @@ line_is f start i r e l =
     (rw (lt-leb most_lines i (omega arith), le-ltb most_bytes (lines_start f) (omega arith), le-ltb (length f) (line_place f i + line_bytes) (omega arith))
     (sym (lines_at f (lines_start f) (counts_of f).lines i b.lines l)))
 
-pub unplaced_is : (f : List ℕ) (start i : ℕ) → Readable f → start ≡ unplaced_start f → i < (counts_of f).unplaced → unplaced_in f start i ≡ unplaced_at (sheet_of f) i
+pub unplaced_is : (f : List ℕ) (start i : ℕ) → Readable f → start ≡ unplaced_start f → i < (counts_of f).unplaced
+    → unplaced_in f start i ≡ unplaced_at (sheet_of f) i
 unfolding unplaced_in sheet_of
 unplaced_is f start i r e l =
     let b = bounds f r in

@@ -49,7 +49,7 @@ pub worked :
     × (fill_of (loaded (whole 100) both 2) ≡ filled 0 12)
     × (fill_of (loaded (whole 10000) both 2) ≡ filled 0 0)
     × (fill_of (loaded (whole 10001) both 2) ≡ filled 8 0)
-unfolding fill_of fill_refusal sheet_refusal or_else container_fault first_below kind_fault_in kind_fault any_below same_id sum_below
-    quantity_of line_fault_in line_fault uneven uneven_kind side_of whole_or_none per_thousand solid_of solid_named solid_if line_volume of_bits to_bits of_int lt le
-    eq neg to_unsigned
+unfolding fill_of fill_refusal sheet_refusal or_else container_fault first_below kind_fault_in kind_fault any_below same_id sum_below quantity_of
+    line_fault_in line_fault uneven uneven_kind side_of whole_or_none per_thousand solid_of solid_named solid_if line_volume of_bits to_bits of_int lt le eq
+    neg to_unsigned
 worked = (refl, refl, refl, refl, refl, refl)

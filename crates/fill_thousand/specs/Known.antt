@@ -1,6 +1,7 @@
 -- In an accepted sheet a line counts for the one kind that has its id, and a line of an unknown kind for nothing.
 use Rattle.std.specs.Prelude.{◌≡◌, ℕ, zero, suc, ◌+◌, ◌<◌, ◌≤◌, Bool, true, false, not, T, ◌⊎◌, List, ◌==◌, ◌≢◌, nat_lt, refl, Float}
-use Rattle.std.proofs.Common.{zero-le, eq-or-lt_of_le, le_of_suc-le-suc, not-suc-le-zero, add-zero, zero-add, mul-le-mul, arith, sym, ap, ◌∙◌, inl, inr, ⊎_elim, ltb→lt, nltb→le, eq-eqb, ne_eqb, eqb-true}
+use Rattle.std.proofs.Common.{zero-le, eq-or-lt_of_le, le_of_suc-le-suc, not-suc-le-zero, add-zero, zero-add, mul-le-mul, arith, sym, ap, ◌∙◌, inl, inr, ⊎_elim}
+use Rattle.std.proofs.Common.{ltb→lt, nltb→le, eq-eqb, ne_eqb, eqb-true}
 use Rattle.floats.specs.Ops.{x, y, z}
 use Rattle.floats.specs.Weak.{true_false}
 use Rattle.lists.specs.Below.{sum_below}

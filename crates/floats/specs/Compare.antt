@@ -1,6 +1,7 @@
 -- Numbers with a sign, ±a against ±b: `below` and `level`, by which lib.Ieee compares two finite floats over a common denominator.
 use Rattle.std.specs.Prelude.{◌≡◌, refl, ℕ, ◌+◌, ◌*◌, ◌≤◌, ◌<◌, Bool, true, false, not, ◌&&◌, ◌||◌, T, leb, ltb, eqb}
-use Rattle.std.proofs.Common.{sym, ap, ◌∙◌, subst, le_trans, le_of_eq, mul_right_comm, mul-le-mul_right, le_of_mul-le-mul_right, add-mul, zero-mul, arith, lt→ltb, ltb→lt, nltb→le, leb→le, le→leb, eqb→eq}
+use Rattle.std.proofs.Common.{sym, ap, ◌∙◌, subst, le_trans, le_of_eq, mul_right_comm, mul-le-mul_right, le_of_mul-le-mul_right, add-mul, zero-mul, arith}
+use Rattle.std.proofs.Common.{lt→ltb, ltb→lt, nltb→le, leb→le, le→leb, eqb→eq}
 use Rattle.std.proofs.Math.Dec.{nleb→lt}
 use Rattle.std.proofs.Math.Arith.{lt→nleb}
 use Rattle.std.specs.Float.Ieee.{below, level}

@@ -1,6 +1,8 @@
 -- A format has one float for each value and sign, and `round` gives a float of the format back.
 use Rattle.std.specs.Prelude.{◌≡◌, refl, ℕ, zero, suc, ◌+◌, ◌-◌, ◌*◌, ◌%◌, ◌^◌, ◌≤◌, ◌<◌, Bool, ◌&&◌, ℤ, pos, negsuc, T, leb, ltb, eqb, Float}
-use Rattle.std.proofs.Common.{sym, ap, ◌∙◌, subst, zero-le, lt_irrefl, lt_of_not-le, not-le_of_lt, lt_of_lt_of_le, le_of_suc-le-suc, zero-lt-suc, mul-one, one-mul, zero-mul, mul_comm, mul_assoc, mul_left_comm, mul_right_comm, mul-pos, mul-lt-mul_of_pos_right, pow-suc, arith, ltb→lt, leb→le, eqb→eq, pow-add, pow_pos, pow_mono, shl_lt}
+use Rattle.std.proofs.Common.{sym, ap, ◌∙◌, subst, zero-le, lt_irrefl, lt_of_not-le, not-le_of_lt, lt_of_lt_of_le, le_of_suc-le-suc, zero-lt-suc, mul-one}
+use Rattle.std.proofs.Common.{one-mul, zero-mul, mul_comm, mul_assoc, mul_left_comm, mul_right_comm, mul-pos, mul-lt-mul_of_pos_right, pow-suc, arith, ltb→lt}
+use Rattle.std.proofs.Common.{leb→le, eqb→eq, pow-add, pow_pos, pow_mono, shl_lt}
 use Rattle.std.proofs.Math.Nat.{pow-succ', eq_of_mul-eq-mul_right, suc_inj}
 use Rattle.std.proofs.Math.Pow.{pow-lt}
 use Rattle.std.specs.Float.{nan, inf, fin, Format}

@@ -53,8 +53,8 @@ two = refl
 
 -- what the fill says of each box
 seeds_are : (seed_in order 2 0 ≡ 5) × (seed_in order 2 1 ≡ 0)
-unfolding seed_of run_from offered best_offer turn_of next_turn took no_lines place_best_of best_of better settled spot_of new_row new_layer lengths_in quantity_of
-    lt le add sub mul sum round units odd size of_bits to_bits of_fields of_int span climb count_trailing_zeros
+unfolding seed_of run_from offered best_offer turn_of next_turn took no_lines place_best_of best_of better settled spot_of new_row new_layer lengths_in
+    quantity_of lt le add sub mul sum round units odd size of_bits to_bits of_fields of_int span climb count_trailing_zeros
 seeds_are = (refl, refl)
 
 are : AreItems order (seeds_for order 2 (replicate 6 0) (replicate 2 0)) items

@@ -93,7 +93,8 @@ ended_refused f records o r few e some = go (right_shape f) refl
     go false s = rw (e ∙ shape_refused f s) (ended_wrong f records o s)
 
 module _ (f records o : List ℕ) (few : records_in records ≤ most_instances) (z : refusal_of f ≡ 0) (shape : right_shape f ≡ true) where
-  pub ended_strange : any_below (is_stranger records (sheet_of f).many.kinds) (records_in records) ≡ true → Ended f records o (answer_of 9 (records_in records)) o
+  pub ended_strange : any_below (is_stranger records (sheet_of f).many.kinds) (records_in records) ≡ true
+      → Ended f records o (answer_of 9 (records_in records)) o
   unfolding seed_refusal or_else
   ended_strange s = ended_right f records o 9 shape (rw (le-ltb most_instances (records_in records) few, sheet_sound f z, s)) (λ e. omega arith)
 

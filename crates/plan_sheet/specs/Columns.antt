@@ -64,7 +64,8 @@ hand_roomy told left c room h =
     roomy c told.placed (not_true_of _ (when_none (not (has_room c told.placed)) 1 (or_else_second told.refused _ a)))
 
 -- the words by columns are those of the plan
-pub words_by : (c : Columns) (n : ℕ) (o : List ℕ) → n ≤ most_lines → wrote (row_by c) 6 n o ≡ wrote (line_words (table blank_line most_lines (column_line c) n)) 6 n o
+pub words_by : (c : Columns) (n : ℕ) (o : List ℕ) → n ≤ most_lines
+    → wrote (row_by c) 6 n o ≡ wrote (line_words (table blank_line most_lines (column_line c) n)) 6 n o
 unfolding wrote row_by line_words
 words_by c n o few =
     ap (λ (l : List ℕ). l ++ drop (n * 6) o)

@@ -1,7 +1,8 @@
 -- Which mark a line sets, and what a mark that is not yet set counts for: how distinct instances are counted.
 use Rattle.std.specs.Prelude.{◌≡◌, Bool, cond, ◌&&◌, List, ℕ, zero, suc, ◌+◌, ◌<◌, ◌≤◌, eqb, length, get_or, set, replicate}
 use Rattle.std.proofs.Math.Path.{refl}
-use Rattle.std.proofs.Common.{sym, ◌∙◌, ⊎_elim, eq-or-lt_of_le, le_of_suc-le-suc, add-one, arith, ltb-true, ltb-false, eqb-true, length-set, get_or-set_same, get_or-set_other}
+use Rattle.std.proofs.Common.{sym, ◌∙◌, ⊎_elim, eq-or-lt_of_le, le_of_suc-le-suc, add-one, arith, ltb-true, ltb-false, eqb-true, length-set, get_or-set_same}
+use Rattle.std.proofs.Common.{get_or-set_other}
 use Rattle.std.proofs.Math.Bool.{true, false}
 use Rattle.std.proofs.lemmas.Bool.{eqb-false}
 use Rattle.std.proofs.Math.Dec.{ltb}
@@ -36,7 +37,8 @@ marked_none ids instances id q h =
     record {
       long = refl;
       spare = refl;
-      marks = λ i l. get_or-set_other (replicate (suc most_lines) false) most_lines i true false (λ e. omega arith) ∙ get_or-replicate (suc most_lines) i false false
+      marks = λ i l. get_or-set_other (replicate (suc most_lines) false) most_lines i true false (λ e. omega arith)
+          ∙ get_or-replicate (suc most_lines) i false false
           (omega arith);
     }
 
@@ -91,7 +93,8 @@ module _ (ids instances : List ℕ) (n id q : ℕ) (seen : List Bool) (small : q
   unfolding mark_of
   step = go (eqb (get_or ids n 0) id && ltb (get_or instances n 0) q) refl
     where
-      go : (b : Bool) → (eqb (get_or ids n 0) id && ltb (get_or instances n 0) q) ≡ b → Stepped ids instances n id q seen (cond b (get_or instances n 0) most_lines)
+      go : (b : Bool) → (eqb (get_or ids n 0) id && ltb (get_or instances n 0) q) ≡ b
+          → Stepped ids instances n id q seen (cond b (get_or instances n 0) most_lines)
       go true h = step_hit (and_left (eqb (get_or ids n 0) id) _ h) (ltb-true (get_or instances n 0) q (and_right (eqb (get_or ids n 0) id) _ h))
       go false h = step_miss h
 

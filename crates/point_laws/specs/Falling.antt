@@ -1,7 +1,8 @@
 -- What the order is: a permutation of the listing in which each box comes before those of smaller volume, and before those of equal volume
 -- that are later in the listing; and there is no other such list.
 use Rattle.std.specs.Prelude.{◌≡◌, refl, Bool, true, false, not, cond, ◌&&◌, ◌||◌, ℕ, zero, suc, ◌<◌, ltb, length, get_or, Float}
-use Rattle.std.proofs.Common.{sym, ◌∙◌, ap, ⊎_elim, suc-le-suc, not-suc-le-zero, le_of_suc-le-suc, eq-or-lt_of_le, arith, ltb-true, ltb-false, lt-ltb, le-ltb, length-append}
+use Rattle.std.proofs.Common.{sym, ◌∙◌, ap, ⊎_elim, suc-le-suc, not-suc-le-zero, le_of_suc-le-suc, eq-or-lt_of_le, arith, ltb-true, ltb-false, lt-ltb, le-ltb}
+use Rattle.std.proofs.Common.{length-append}
 use mathlib.Core.List.Permᴰ
 use mathlib.Core.List.{List, [], ◌∷◌, ◌++◌, map, Permᴰ}
 use Rattle.std.proofs.lemmas.List.{map-append, get_or_at}
@@ -109,9 +110,9 @@ Sorted vol [] = Unit {0}
 Sorted vol (u ∷ l) = ((i : ℕ) → i < length l → sooner vol u (get_or l i 0) ≡ true) × Sorted vol l
 
 -- a box whose volume is not smaller, and that is earlier in the listing, comes first
-first_of : (p q s : Bool) → q ≡ false → s ≡ true → (p || (not q && s)) ≡ true
-first_of true q s e h = refl
-first_of false q s e h = rw (e, h)
+first_of_lem : (p q s : Bool) → q ≡ false → s ≡ true → (p || (not q && s)) ≡ true
+first_of_lem true q s e h = refl
+first_of_lem false q s e h = rw (e, h)
 
 insert_sorted : (vol : ℕ → Float) (t : ℕ) (l : List ℕ) → Number (vol t) → ((i : ℕ) → i < length l → (get_or l i 0 < t) × Number (vol (get_or l i 0)))
     → Sorted vol l → Sorted vol (insert vol t l)
@@ -136,7 +137,7 @@ insert_sorted vol t (u ∷ l) p h s =
     go false e r = (
       λ i k.
           insert_all (λ v. sooner vol u v ≡ true) vol t l
-          (first_of (lt (vol t) (vol u)) (lt (vol u) (vol t)) (ltb u t) e (lt-ltb u t (h zero (omega arith)).0))
+          (first_of_lem (lt (vol t) (vol u)) (lt (vol u) (vol t)) (ltb u t) e (lt-ltb u t (h zero (omega arith)).0))
           s.0
           i
           (let q = insert_length vol t l in omega arith),

@@ -16,8 +16,8 @@ use Rattle.point_state.specs.Stores.{point_at}
 use Rattle.point_place.specs.declared.Tried.{Tried}
 use Rattle.lists.specs.Bools.{cond_cases}
 use Rattle.point_scan.specs.Choose.{best_of, scan_found}
-use Rattle.point_grow.specs.Grow.{Stock, dropped, added, count_with, points_with, count_with_lem, Between, along_x, along_y, along_z, corners_of, stock_by, stock_of}
-use Rattle.point_grow.specs.Grow.{after_box}
+use Rattle.point_grow.specs.Grow.{Stock, dropped, added, count_with, points_with, count_with_lem, Between, along_x, along_y, along_z, corners_of, stock_by}
+use Rattle.point_grow.specs.Grow.{stock_of, after_box}
 use Rattle.point_place.specs.Place.{stood, refusal_of, placed_by, tried_of, ready}
 use Rattle.point_laws.specs.Clean.{Clean}
 use Rattle.point_laws.specs.Reach.{Reached, reached_clean}
@@ -65,7 +65,8 @@ first_put points k (suc n) t room l = ⊎_elim here (λ i. below i (first_put po
     below : k < n → Permᴰ (three points k ∷ first_of (put3 points k t) n) ((x t ∷ y t ∷ z t ∷ []) ∷ first_of points n) → Goal
     below i p =
         rw (three_other points k n t (λ q. omega arith))
-        (mathlib.Core.List.Permᴰ.trans (mathlib.Core.List.Permᴰ.swap refl refl) (mathlib.Core.List.Permᴰ.trans (mathlib.Core.List.Permᴰ.cons refl p) (mathlib.Core.List.Permᴰ.swap refl refl)))
+        (mathlib.Core.List.Permᴰ.trans (mathlib.Core.List.Permᴰ.swap refl refl)
+        (mathlib.Core.List.Permᴰ.trans (mathlib.Core.List.Permᴰ.cons refl p) (mathlib.Core.List.Permᴰ.swap refl refl)))
 
 abbrev listed : Stock → List (List Float)
 listed s = first_of s.points s.live
@@ -76,7 +77,8 @@ drop_perm : (points : List Float) (n k : ℕ) → suc n ≤ most_points → leng
 unfolding first_of three
 drop_perm points n k few long l =
     ⊎_elim
-    (λ e. rw (e, first_same (put3 points n (three points n)) points n (λ j i. three_other points n j (three points n) (λ q. omega arith))) (mathlib.Core.List.Permᴰ.refl _))
+    (λ e. rw (e, first_same (put3 points n (three points n)) points n (λ j i. three_other points n j (three points n) (λ q. omega arith)))
+    (mathlib.Core.List.Permᴰ.refl _))
     (λ i. first_put points k n (three points n) (rw long (omega arith)) i)
     (eq-or-lt_of_le (le_of_suc-le-suc l))
 
@@ -145,7 +147,8 @@ points_after {s} kind instance o r =
     (λ _ q. true_false (sym q))
 
 -- with none passing the points and the boxes stay. They stay as they are, in every state and on a refusal too.
-pub points_stay : (s : ExtremePointSet) (kind : Kind) (instance o : ℕ) → stood (tried_of s kind instance o).answer ≡ false → (tried_of s kind instance o).next ≡ s
+pub points_stay : (s : ExtremePointSet) (kind : Kind) (instance o : ℕ) → stood (tried_of s kind instance o).answer ≡ false
+    → (tried_of s kind instance o).next ≡ s
 unfolding tried_of placed_by
 points_stay s kind instance o =
     cond_cases (λ (t : Tried). stood t.answer ≡ false → t.next ≡ s) (eqb (refusal_of s.live s.held kind) 0)

@@ -1,7 +1,8 @@
 -- How the order is made in a store of places: where the next box goes, and the places behind it moved one on.
 use Rattle.std.specs.Prelude.{◌≡◌, refl, Bool, true, false, cond, List, [], ◌∷◌, ◌++◌, ℕ, zero, suc, ◌+◌, ◌-◌, ◌<◌, ◌≤◌, length, get_or, set, take, drop, Float}
 use Rattle.std.proofs.Math.Path.{sym, ap}
-use Rattle.std.proofs.Common.{◌∙◌, append_assoc, suc-le-suc, le_refl, not-suc-le-zero, le_of_suc-le-suc, add-zero, zero-add, add-one, arith, length-append, length-set, length-drop, take-append-drop, length-take-le, take-suc, take-take, take_at, get_or-take, drop_at, drop-drop}
+use Rattle.std.proofs.Common.{◌∙◌, append_assoc, suc-le-suc, le_refl, not-suc-le-zero, le_of_suc-le-suc, add-zero, zero-add, add-one, arith, length-append}
+use Rattle.std.proofs.Common.{length-set, length-drop, take-append-drop, length-take-le, take-suc, take-take, take_at, get_or-take, drop_at, drop-drop}
 use Rattle.std.proofs.Math.ListN.{get_or-append}
 use Rattle.std.proofs.Math.Seq.{slice, slice_empty, slice-cons, append_snoc, length-slice}
 use Rattle.std.proofs.lemmas.List.{set_at}

@@ -320,7 +320,8 @@ module _ (c : Container) (kinds : List Kind) (items : List Instance) (i live hel
     (mass vol : Float) (old now : Columns) (h : Holds c kinds items i live held last (wide points) (wide boxes) (wide walls) mass vol old now)
     (short : Short live held (stores points boxes walls hints)) (read : Kind) (copy : ℕ) (r : Stood) (t : Stores)
     (k : StepIs c live held mass read (stores points boxes walls hints) r t)
-    (read_is : read ≡ get_or kinds (get_or items i no_instance).kind no_kind) (right : kind_fault (get_or kinds (get_or items i no_instance).kind no_kind) false ≡ 0) where
+    (read_is : read ≡ get_or kinds (get_or items i no_instance).kind no_kind)
+    (right : kind_fault (get_or kinds (get_or items i no_instance).kind no_kind) false ≡ 0) where
   abbrev room_in : held < most_boxes
   room_in = short.room.held_in
 

@@ -73,9 +73,9 @@ pub record Spare (points boxes walls live held : ℕ) : Type 0 where
   pub boxes_in : 3 * (2 * held + 1) + 2 < boxes
   pub walls_in_lem : 3 * (2 * held + 1) + 2 < walls
 
-pub spare_in : (points boxes walls live held : ℕ) → Spare points boxes walls live held → spare points boxes walls live held ≡ true
+pub spare_in_lem : (points boxes walls live held : ℕ) → Spare points boxes walls live held → spare points boxes walls live held ≡ true
 unfolding spare
-spare_in points boxes walls live held h =
+spare_in_lem points boxes walls live held h =
     rw (not_over live held h.counts, lt-ltb held most_boxes h.held_in, lt-ltb (3 * (live + 1) + 2) points h.points_in)
     (rw (lt-ltb (3 * (2 * held + 1) + 2) boxes h.boxes_in, lt-ltb (3 * (2 * held + 1) + 2) walls h.walls_in_lem))
 

@@ -16,13 +16,14 @@ use Rattle.point_state.specs.All.{all_same}
 use Rattle.point_state.specs.Triples.{cells, three, put3, put3_length, sum3, triple_in, triple_in_lem}
 use Rattle.point_fit.specs.declared.Room.{Room}
 use Rattle.point_fit.specs.Fit.{room_of, far_wall, near_wall}
-use Rattle.point_grow.specs.Grow.{free, valid, corners_of, count_with, points_with, count_with_lem, with_long, stock_by, put_box, box_in_lem, box_long, restock_in}
+use Rattle.point_grow.specs.Grow.{free, valid, corners_of, count_with, points_with, count_with_lem, with_long, stock_by, put_box, box_in_lem, box_long}
+use Rattle.point_grow.specs.Grow.{restock_in}
 use Rattle.point_scan.specs.Passes.{apart_from, none_blocks, passes_by}
 use Rattle.point_scan.specs.Choose.{scan_found, scan_alike}
 use Rattle.point_scan.specs.Walls.{InStores, scan_of, scanned_in, put_walls, walls_in_lem}
 use Rattle.point_step.specs.declared.Pick.{Pick}
 use Rattle.point_step.specs.declared.Stood.{Stood}
-use Rattle.point_step.specs.Pick.{too_heavy, Spare, spare_in, choice_in, pick_of, pick_same, pick_index}
+use Rattle.point_step.specs.Pick.{too_heavy, Spare, spare_in_lem, choice_in, pick_of, pick_same, pick_index}
 use Rattle.point_step.specs.Step.{Stores, stores, StepIs, pick_for, hints_for, stock_after, boxes_after, walls_after}
 
 -- the store padded to the length of a state's
@@ -205,7 +206,7 @@ module _ (c : Container) (live held : ℕ) (mass : Float) (kind : Kind) (s : Sto
   pub pick_wide : pick_for c live held mass kind w ≡ pick_for c live held mass kind s
   unfolding pick_for pick_of
   pick_wide =
-      rw (spare_in _ _ _ live held room_wide, spare_in _ _ _ live held h.room, pick_same _ _ (length (share_of kind.rule)) choice_wide)
+      rw (spare_in_lem _ _ _ live held room_wide, spare_in_lem _ _ _ live held h.room, pick_same _ _ (length (share_of kind.rule)) choice_wide)
 
   choice_in_lem : (o : ℕ) → (choice_in (room_of c) s.walls held s.points live kind (length s.hints) o).found ≡ true
       → (choice_in (room_of c) s.walls held s.points live kind (length s.hints) o).index < live
@@ -218,7 +219,7 @@ module _ (c : Container) (live held : ℕ) (mass : Float) (kind : Kind) (s : Sto
   pub pick_in : (pick_for c live held mass kind s).found ≡ true → (pick_for c live held mass kind s).index < live
   unfolding pick_for pick_of
   pick_in =
-      rw (spare_in _ _ _ live held h.room)
+      rw (spare_in_lem _ _ _ live held h.room)
       (cond_cases (λ (p : Pick). p.found ≡ true → p.index < live) (too_heavy c.limit mass kind) (λ _ e. true_false (sym e))
       (λ _. pick_index _ live (length (share_of kind.rule)) choice_in_lem))
 

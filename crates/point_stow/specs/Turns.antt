@@ -31,7 +31,7 @@ use Rattle.point_scan.specs.Walls.{Walled, walls_of, walls_walled, put_walls, pu
 use Rattle.point_place.specs.Place.{refusal_of, label_of}
 use Rattle.point_step.specs.declared.Pick.{Pick}
 use Rattle.point_step.specs.declared.Stood.{Stood}
-use Rattle.point_step.specs.Pick.{too_heavy, Spare, spare_in, no_pick, pick_of, pick_by, choice_in, pick_same, pick_index}
+use Rattle.point_step.specs.Pick.{too_heavy, Spare, spare_in_lem, no_pick, pick_of, pick_by, choice_in, pick_same, pick_index}
 use Rattle.point_step.specs.Step.{Stores, stores, StepIs, pick_for, stock_after, boxes_after, walls_after}
 use Rattle.point_stow.specs.Stow.{Stowed, Attempt, attempt_of, after_attempt, turn_of, stowed_by}
 use Rattle.point_stow.specs.Agrees.{picked_of, Agrees, attempt_agrees}
@@ -188,7 +188,7 @@ module _ (s : ExtremePointSet) (walls : List Float) (hints : List ℕ) (mass : F
 
   pick_is : (b : Bool) → heavy ≡ b → pick_at ≡ cond b no_pick (pick_of (room_of s.container) walls s.held s.points s.live kind (length hints) turns)
   unfolding pick_for
-  pick_is b e = rw (spare_in _ _ _ s.live s.held spared, e)
+  pick_is b e = rw (spare_in_lem _ _ _ s.live s.held spared, e)
 
   -- a scan for one orientation makes the choice of the definition
   choice_best : (o : ℕ) → choice_in (room_of s.container) walls s.held s.points s.live kind (length hints) o ≡ best_of s (lengths_in kind o)

@@ -10,7 +10,8 @@ use Rattle.sheet.specs.Sheets.{no_kind, same_id, among, ids_below}
 pub id_at : (kinds : List Kind) (n j : ℕ) → n ≤ most_kinds → j < n → get_or (ids_below kinds n) j 0 ≡ (get_or kinds j no_kind).id
 id_at kinds n j few l = table_at 0 most_kinds (λ k. (get_or kinds k no_kind).id) n j 0 few l
 
-pub repeats_same : (kinds : List Kind) (n k : ℕ) → n ≤ most_kinds → k ≤ n → among (ids_below kinds n) (get_or kinds k no_kind).id k ≡ any_below (same_id kinds k) k
+pub repeats_same : (kinds : List Kind) (n k : ℕ) → n ≤ most_kinds → k ≤ n
+    → among (ids_below kinds n) (get_or kinds k no_kind).id k ≡ any_below (same_id kinds k) k
 unfolding is_at same_id among
 repeats_same kinds n k few h =
     rw (le-leb k most_kinds (omega arith))

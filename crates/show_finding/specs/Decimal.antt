@@ -1,6 +1,7 @@
 -- A number in decimal digits, without leading zeros, in ASCII; and that the digits' value is the number.
 use Rattle.std.specs.Prelude.{ℕ, zero, suc, ◌+◌, ◌*◌, ◌-◌, ◌/◌, ◌%◌, ◌^◌, ◌≤◌, ◌<◌, Bool, true, false, cond, List, [], ◌∷◌, ◌++◌, ◌≡◌, refl, ltb, length}
-use Rattle.std.proofs.Common.{◌∙◌, arith, div-add-mod', div-lt_iff_lt-mul, le-div_iff_mul-le, mod-lt, mod-eq_of_lt, pow-suc, not-suc-le-zero, lt_of_not-le, not-le_of_lt, le_trans, length-append, lt-ltb, le-ltb, ltb-true}
+use Rattle.std.proofs.Common.{◌∙◌, arith, div-add-mod', div-lt_iff_lt-mul, le-div_iff_mul-le, mod-lt, mod-eq_of_lt, pow-suc, not-suc-le-zero, lt_of_not-le}
+use Rattle.std.proofs.Common.{not-le_of_lt, le_trans, length-append, lt-ltb, le-ltb, ltb-true}
 use Rattle.std.proofs.Math.Nat.{one-le-pow, pow-le-pow_right}
 use Rattle.io.specs.Digits.{last_digits, IsDigitCount}
 use Rattle.show.specs.Digits.{digit_value, value_from, value_of, value_more}

@@ -1,5 +1,6 @@
 -- A word as a number: decimal digits and nothing else.
-use Rattle.std.specs.Prelude.{ℕ, suc, ◌+◌, ◌*◌, ◌<◌, ◌≤◌, Bool, true, false, not, cond, ◌&&◌, List, [], ◌∷◌, ◌≡◌, refl, ltb, leb, eqb, length, get_or, drop, take}
+use Rattle.std.specs.Prelude.{ℕ, suc, ◌+◌, ◌*◌, ◌<◌, ◌≤◌, Bool, true, false, not, cond, ◌&&◌, List, [], ◌∷◌, ◌≡◌, refl, ltb, leb, eqb, length, get_or, drop}
+use Rattle.std.specs.Prelude.{take}
 use Rattle.std.proofs.Common.{sym, ◌∙◌, arith, le-ltb, ltb-true, ltb-false, drop-cons, take-suc}
 use Rattle.std.proofs.Math.Seq.{drop-length}
 use Rattle.show.specs.Digits.{digit_value, value_from, value_of, value_more}

@@ -1,5 +1,6 @@
 -- A count of findings, and a file's length, are far below 2^32, so that an answer's two parts do not mix.
-use Rattle.std.specs.Prelude.{◌≡◌, refl, Bool, true, false, cond, ◌&&◌, ◌||◌, List, [], ◌∷◌, ℕ, zero, suc, ◌+◌, ◌*◌, ◌/◌, ◌<◌, ◌≤◌, eqb, ltb, leb, length, Float}
+use Rattle.std.specs.Prelude.{◌≡◌, refl, Bool, true, false, cond, ◌&&◌, ◌||◌, List, [], ◌∷◌, ℕ, zero, suc, ◌+◌, ◌*◌, ◌/◌, ◌<◌, ◌≤◌, eqb, ltb, leb, length}
+use Rattle.std.specs.Prelude.{Float}
 use Rattle.std.proofs.Math.Bool.{not}
 use Rattle.std.proofs.Common.{le_refl, suc-mul, eqb-true}
 use native.Mathlib.Omega.{arith}
