@@ -8,7 +8,7 @@ use Rattle.sheet.specs.Alike.{Alike}
 use Rattle.file_read.specs.Form.{right_shape, counts_of}
 use Rattle.file_read.specs.Reading.{sheet_by, refusal_by, sheet_of, refusal_of}
 use Rattle.file_write.specs.Writing.{file_of}
-use Rattle.file_laws.specs.Counts.{Within, sheet_now, refusal_now, accepted_more, reads_alike, written_same, boxes_by, longer_gets_2, fewer_decides}
+use Rattle.file_laws.specs.Counts.{Within, sheet_now, refusal_now, reads_alike, written_same, boxes_by, longer_gets_2, fewer_decides}
 
 abbrev pub most_before : Most
 most_before = record { kinds = most_kinds; boxes = 256; lines = 256; unplaced = most_unplaced }
@@ -17,10 +17,6 @@ pub before_within : Within most_before most_now
 before_within = record { kinds = omega arith; boxes = omega arith; lines = omega arith; unplaced = omega arith }
 
 module _ (f : List ℕ) where
-  -- **a file that was accepted then is accepted**
-  pub accepted_since : refusal_by most_before f ≡ 0 → refusal_of f ≡ 0
-  accepted_since h = refusal_now f ∙ accepted_more most_before most_now before_within f h
-
   -- **and reads the same**
   pub reads_since : refusal_by most_before f ≡ 0 → Alike (sheet_by most_before f) (sheet_of f)
   reads_since h = rw (sheet_now f) (reads_alike most_before most_now before_within f h)

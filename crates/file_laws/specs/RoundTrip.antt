@@ -1,37 +1,35 @@
--- The reading call and the writing call undo each other, whichever comes first. RULES: Load file
-use Rattle.std.specs.Prelude.{ℕ, ◌≤◌, ◌≡◌, refl, Bool, true, false, cond, List, ◌++◌, eqb, leb, length, take, drop}
-use Rattle.std.proofs.Common.{sym, ap, ◌∙◌, arith, take_at, eqb-true, leb-true, le-leb}
+-- The reading call and the writing call undo each other: a sheet that was read is written as the same bytes. The other way round stands in
+-- proofs/RoundTrip.antt. RULES: Load file
+use Rattle.std.specs.Prelude.{ℕ, ◌≤◌, ◌≡◌, refl, Bool, true, false, cond, List, ◌++◌, eqb, leb, length, drop}
+use Rattle.std.proofs.Common.{sym, ap, ◌∙◌, arith, eqb-true, leb-true, le-leb}
 use Rattle.std.proofs.lemmas.Bool.{eqb-false}
 use Rattle.sheet.specs.declared.Sheet.{Sheet}
 use Rattle.sheet.specs.Sheets.{sheet_refusal}
-use Rattle.sheet.specs.Accepted.{accepted}
 use Rattle.file_write.specs.declared.Written.{Written}
 use Rattle.file_read.specs.Reading.{sheet_of, refusal_of, read_of}
 use Rattle.file_read.specs.Refusal.{sheet_sound}
 use Rattle.file_write.specs.Writing.{file_of, file_length, written_of, bytes_after}
 use Rattle.file_laws.specs.Parts.{Bytes}
 use Rattle.file_write.specs.Stores.{file_length_is}
-use Rattle.file_laws.specs.Typed.{Typed}
-use Rattle.file_laws.specs.Tidy.{tidy, Blank, tidy_blank}
-use Rattle.file_laws.specs.ReadWrite.{read_write, same_file}
-use Rattle.file_laws.specs.WriteRead.{write_read, write_accepted}
+use Rattle.file_laws.specs.ReadWrite.{read_write}
 
 -- ---- the calls where they accept
 
-refused_is : (f : List ℕ) → (read_of f).refused ≡ refusal_of f
+pub refused_is : (f : List ℕ) → (read_of f).refused ≡ refusal_of f
 unfolding read_of
 refused_is f = refl
 
-read_is : (f : List ℕ) → refusal_of f ≡ 0 → read_of f ≡ record { refused = 0; sheet = sheet_of f }
+pub read_is : (f : List ℕ) → refusal_of f ≡ 0 → read_of f ≡ record { refused = 0; sheet = sheet_of f }
 unfolding read_of
 read_is f h = rw h
 
-written_is : (s : Sheet) (lent : ℕ) → sheet_refusal s ≡ 0 → file_length s.many ≤ lent
+pub written_is : (s : Sheet) (lent : ℕ) → sheet_refusal s ≡ 0 → file_length s.many ≤ lent
     → written_of s lent ≡ record { refused = 0; length = file_length s.many }
 unfolding written_of
 written_is s lent h l = rw (h, le-leb (file_length s.many) lent l)
 
-bytes_are : (s : Sheet) (out : List ℕ) → sheet_refusal s ≡ 0 → file_length s.many ≤ length out → bytes_after s out ≡ file_of s ++ drop (file_length s.many) out
+pub bytes_are : (s : Sheet) (out : List ℕ) → sheet_refusal s ≡ 0 → file_length s.many ≤ length out
+    → bytes_after s out ≡ file_of s ++ drop (file_length s.many) out
 unfolding bytes_after
 bytes_are s out h l = rw (h, le-leb (file_length s.many) (length out) l)
 
@@ -73,28 +71,3 @@ read_then_write f out bytes e room =
       answer = rw r (written_is s (length out) fine l ∙ rw long);
       bytes = rw r (bytes_are s out fine l ∙ rw (same, long));
     }
-
--- ---- **writing then reading gives the same sheet**: where the writing call accepts s, the reading call given the bytes that were written accepts,
--- and gives s with the cells past its counts blank
-pub write_then_read : (s : Sheet) (out : List ℕ) → Typed s → (written_of s (length out)).refused ≡ 0 →
-    read_of (take (written_of s (length out)).length (bytes_after s out)) ≡ record { refused = 0; sheet = tidy s }
-write_then_read s out typed h =
-    let a = accepts s (length out) h in
-    let taken : take (file_length s.many) (file_of s ++ drop (file_length s.many) out) ≡ file_of s =
-    take_at (file_of s) (drop (file_length s.many) out) (file_length s.many) (file_length_is s) in
-    rw (written_is s (length out) a.sheet a.room, bytes_are s out a.sheet a.room, taken)
-    (read_is (file_of s) (write_accepted s typed a.sheet) ∙ rw (write_read s typed a.sheet))
-
--- a sheet whose cells past its counts are blank comes back as it was
-pub write_then_read_same : (s : Sheet) (out : List ℕ) → Typed s → Blank s → (written_of s (length out)).refused ≡ 0 →
-    read_of (take (written_of s (length out)).length (bytes_after s out)) ≡ record { refused = 0; sheet = s }
-write_then_read_same s out typed blank h =
-    let few = (accepted s (accepts s (length out) h).sheet).few_of in
-    write_then_read s out typed h ∙ rw (tidy_blank s typed few blank)
-
--- ---- **two accepted files with the same sheet are the same file**
-pub same_reading : (f g : List ℕ) → Bytes f → Bytes g → (read_of f).refused ≡ 0 → (read_of g).refused ≡ 0 → (read_of f).sheet ≡ (read_of g).sheet → f ≡ g
-same_reading f g bf bg df dg e =
-    let hf : refusal_of f ≡ 0 = sym (refused_is f) ∙ df in
-    let hg : refusal_of g ≡ 0 = sym (refused_is g) ∙ dg in
-    same_file f g bf bg hf hg (rw (read_is f hf, read_is g hg) at e)

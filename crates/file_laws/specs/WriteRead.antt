@@ -1,6 +1,6 @@
 -- Writing then reading gives the same sheet, for every sheet that is not refused; its cells past its counts, which no file says, come back blank.
 use Rattle.std.specs.Prelude.{ℕ, ◌+◌, ◌-◌, ◌*◌, ◌/◌, ◌%◌, ◌≤◌, ◌<◌, ◌^◌, ◌≡◌, refl, true, List, [], ◌∷◌, length, get_or, Float}
-use Rattle.std.proofs.Common.{sym, ap, ◌∙◌, arith, le-leb, eq-eqb}
+use Rattle.std.proofs.Common.{sym, ◌∙◌, arith, le-leb, eq-eqb}
 use Rattle.std.specs.Float.{binary64}
 use Rattle.std.specs.Float.Ieee.{of_bits}
 use Rattle.std.specs.Float.Ieee.Bits.{of_bits-to_bits, to_bits-lt}
@@ -19,18 +19,17 @@ use Rattle.file_read.specs.Form.{most_bytes}
 use Rattle.file_read.specs.Form.{form, letter_l, letter_s, trailer, trailer_of, lines_start, unplaced_start, trailer_start, placed, whole, right_shape}
 use Rattle.file_read.specs.Form.{counts_of}
 use Rattle.file_read.specs.Reading.{container_of, kind_of, line_of, container_from, kind_from, line_from, kind_place, blank_kind, blank_line}
-use Rattle.file_read.specs.Reading.{kinds_by, lines_by, ids_by, kinds_of, lines_of, ids_of, sheet_of, refusal_of}
+use Rattle.file_read.specs.Reading.{kinds_by, lines_by, ids_by, kinds_of, lines_of, ids_of, sheet_of}
 use Rattle.file_write.specs.Writing.{bits_of, container_numbers, kind_numbers, line_numbers, trailer_numbers, container_out, kind_out, line_out, trailer_out}
 use Rattle.file_write.specs.Writing.{lines_from, unplaced_from, trailer_from, file_of}
 use Rattle.file_laws.specs.Parts.{Bytes, number_there}
 use Rattle.file_laws.specs.Fields.{Fit, none, one, record_forth}
 use Rattle.lists.specs.Table.{table_same}
 use Rattle.file_read.specs.Shaped.{Placed, Shaped}
-use Rattle.file_read.specs.Refusal.{sheet_decides}
 use Rattle.file_write.specs.Stores.{file_length_is}
 use Rattle.file_laws.specs.Layout.{file_bytes, block_there, kind_there, line_there, id_there, trailer_there}
 use Rattle.file_laws.specs.Typed.{Held, TypedContainer, TypedKind, TypedLine, Typed}
-use Rattle.file_laws.specs.Tidy.{tidy, Blank, tidy_blank, tidy_refusal}
+use Rattle.file_laws.specs.Tidy.{tidy}
 
 -- ---- records: what was written at a place is read there
 
@@ -141,7 +140,7 @@ module _ (s : Sheet) (few : Few s.many) where
       let u : (trailer (file_of s) - unplaced_start (file_of s)) / id_bytes ≡ s.many.unplaced = rw (unplaced_start_lem, trailer_at) (omega arith) in
       rw (k, l, u)
 
-  file_shaped : Shaped (file_of s)
+  pub file_shaped : Shaped (file_of s)
   unfolding trailer_numbers
   file_shaped =
       record {
@@ -170,7 +169,7 @@ placed_of n k l u t v a b h =
     rw (le-leb n most_bytes h.short, eq-eqb k block_bytes h.first, le-leb k l h.kinds, le-leb l u h.lines, le-leb u t h.ids)
     (rw (eq-eqb t (n - trailer_bytes) h.last, eq-eqb v form h.version, eq-eqb a letter_l h.letter, eq-eqb b letter_s h.letter'))
 
-right_shape_lem : (f : List ℕ) → Shaped f → right_shape f ≡ true
+pub right_shape_lem : (f : List ℕ) → Shaped f → right_shape f ≡ true
 unfolding right_shape whole
 right_shape_lem f h =
     let k : (lines_start f - block_bytes) % kind_bytes ≡ 0 = omega (arith, h) in
@@ -221,20 +220,6 @@ module _ (s : Sheet) (typed : Typed s) (few : Few s.many) where
 pub write_read : (s : Sheet) → Typed s → sheet_refusal s ≡ 0 → sheet_of (file_of s) ≡ tidy s
 write_read s typed h = sheet_comes s typed (accepted s h).few_of
 
--- **and the file is accepted**
-pub write_accepted : (s : Sheet) → Typed s → sheet_refusal s ≡ 0 → refusal_of (file_of s) ≡ 0
-write_accepted s typed h =
-    let few = (accepted s h).few_of in
-    sheet_decides (file_of s) (right_shape_lem (file_of s) (file_shaped s few)) ∙ ap sheet_refusal (write_read s typed h) ∙ tidy_refusal s few ∙ h
-
 -- the file of a sheet is bytes
 pub write_bytes : (s : Sheet) → Typed s → sheet_refusal s ≡ 0 → Bytes (file_of s)
 write_bytes s typed h = file_bytes s
-
--- **a sheet whose cells past its counts are blank comes back as it was**
-pub write_read_same : (s : Sheet) → Typed s → sheet_refusal s ≡ 0 → Blank s → sheet_of (file_of s) ≡ s
-write_read_same s typed h b = write_read s typed h ∙ tidy_blank s typed (accepted s h).few_of b
-
--- **two such sheets with the same file are the same but for those cells**
-pub same_sheet : (s t : Sheet) → Typed s → Typed t → sheet_refusal s ≡ 0 → sheet_refusal t ≡ 0 → file_of s ≡ file_of t → tidy s ≡ tidy t
-same_sheet s t a b h k e = sym (write_read s a h) ∙ ap sheet_of e ∙ write_read t b k

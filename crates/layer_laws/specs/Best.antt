@@ -6,13 +6,12 @@ use Rattle.std.proofs.Common.{sym, ◌∙◌, ap, true≢false, arith, ne_eqb, g
 use Rattle.std.specs.Float.{Format, nan, inf, fin, binary64}
 use Rattle.std.specs.Float.Ieee.{up, down, of_bits, mul, lt}
 use Rattle.floats.specs.Ops as Ops
-use Rattle.floats.specs.Ops.{◌⊕◌, ◌⊗◌}
 use Rattle.floats.specs.Order.{signed, round_signed, signed_number}
 use Rattle.floats.specs.Sums.{add_signed}
 use Rattle.floats.specs.Weak.{Number, true_false}
 use Rattle.domain.specs.Bounds.{most_boxes}
 use Rattle.domain.specs.Refusals.{when}
-use Rattle.domain.specs.Laws.{or_else_first, or_else_second, when_none}
+use Rattle.domain.specs.Laws.{or_else_first, or_else_second}
 use Rattle.lists.specs.Bools.{cond_cases}
 use Rattle.measures.specs.declared.Container.{Container}
 use Rattle.measures.specs.declared.Kind.{Kind}
@@ -28,10 +27,11 @@ use Rattle.layer_state.specs.Best.{million, thousand, tenth, score_of, best_for,
 use Rattle.sheet.specs.declared.Line.{Line}
 use Rattle.layer_fill.specs.declared.LayerFill.{LayerFill}
 use Rattle.layer_fill.specs.declared.Placing.{Placing}
-use Rattle.layer_fill.specs.Fill.{blank_line, opened, line_of, pushed, place_refusal, answered, placed_best, room}
+use Rattle.layer_fill.specs.Fill.{blank_line, opened, line_of, pushed, place_refusal, answered, room}
 use Rattle.layer_lent.specs.Follows.{Offer, turned, best, answer_to, fill_after, Fair, fair_opened, answers, answer_cases}
 use Rattle.plan_laws.specs.Spots.{lengths_in_lem, kind_measures, Sized, sized, not_negative}
-use Rattle.plan_laws.specs.Layers.{Ahead, Right, Kept, none_signed, turn_ahead, none_kept, turned_kept, best_kept}
+use Rattle.plan_laws.specs.Layers.{Ahead, Right, Kept, none_signed, turn_ahead, none_kept}
+use Rattle.plan_laws.proofs.Layers.{turned_kept, best_kept}
 use Rattle.layer_laws.specs.Least as Least
 
 -- ---- a float that is not negative, times one above 0
@@ -88,7 +88,7 @@ spot_forward b max c size s h =
 -- ---- a fill that was opened on an accepted container
 
 -- its cursor is nowhere negative
-record Standing (f : LayerFill) : Type 0 where
+pub record Standing (f : LayerFill) : Type 0 where
   fair : Fair f
   ahead : Ahead f.stand.cursor
 
@@ -129,12 +129,12 @@ next_standing f (best k instance) s =
           (λ e. best_kept b (sized b s.fair.container_right) f.stand k e (right f s));
     }
 
-after_standing : (f : LayerFill) (ws : List Offer) → Standing f → Standing (fill_after f ws)
+pub after_standing : (f : LayerFill) (ws : List Offer) → Standing f → Standing (fill_after f ws)
 unfolding fill_after
 after_standing f [] s = s
 after_standing f (w ∷ ws) s = after_standing (answer_to f w).next ws (next_standing f w s)
 
-opened_standing : (b : Container) → container_fault b ≡ false → Standing (opened b).fill
+pub opened_standing : (b : Container) → container_fault b ≡ false → Standing (opened b).fill
 opened_standing b e =
     let s = sized b e in
     record {
@@ -211,7 +211,7 @@ module _ (f : LayerFill) (k : Kind) (instance : ℕ) (s : Standing f) where
   took : measure_fault k ≡ false → Took f.stand k t
   took e = best_took f.stand k (search e).fits_there
 
-  chooses_taken : place_refusal f.count k ≡ 0 → t.fits ≡ true → Chooses f k (record { refused = 0; placed = true; next = pushed f t k.id instance })
+  pub chooses_taken : place_refusal f.count k ≡ 0 → t.fits ≡ true → Chooses f k (record { refused = 0; placed = true; next = pushed f t k.id instance })
   chooses_taken r fits =
       let e = accepted_kind f.count k r in
       let h = search e in
@@ -229,7 +229,7 @@ module _ (f : LayerFill) (k : Kind) (instance : ℕ) (s : Standing f) where
         none_fits = λ g. true_false g;
       }
 
-  chooses_left : (n : ℕ) → (n ≡ 0 → (place_refusal f.count k ≡ 0) × (t.fits ≡ false)) → Chooses f k (record { refused = n; placed = false; next = f })
+  pub chooses_left : (n : ℕ) → (n ≡ 0 → (place_refusal f.count k ≡ 0) × (t.fits ≡ false)) → Chooses f k (record { refused = n; placed = false; next = f })
   chooses_left n why =
       record {
         within = λ g. true_false (sym g);
@@ -241,13 +241,3 @@ module _ (f : LayerFill) (k : Kind) (instance : ℕ) (s : Standing f) where
             let e = accepted_kind f.count k (why z).0 in
             (search e).none_fits ((took e).lost (why z).1 m) o l;
       }
-
-  chooses : Chooses f k (placed_best f k instance)
-  chooses = answer_cases f k instance t (Chooses f k) chooses_taken chooses_left
-
--- ---- for every container that is not refused, boxes offered since, and box offered now
-pub best_least : (b : Container) (ws : List Offer) (k : Kind) (instance : ℕ) → (opened b).refused ≡ 0
-    → Chooses (fill_after (opened b).fill ws) k (placed_best (fill_after (opened b).fill ws) k instance)
-best_least b ws k instance h =
-    chooses (fill_after (opened b).fill ws) k instance
-    (after_standing (opened b).fill ws (opened_standing b (when_none (container_fault b) 2 h)))

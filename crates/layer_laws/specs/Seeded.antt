@@ -16,7 +16,7 @@ use Rattle.layer_fill.specs.declared.LayerFill.{LayerFill}
 use Rattle.layer_fill.specs.Fill.{empty}
 use Rattle.plan_boxes.specs.Turns.{turn_of, Right, turn_right}
 use Rattle.plan_sheet.specs.Planned.{planned_sheet}
-use Rattle.plan_laws.specs.Accepted.{layers_accepted}
+use Rattle.plan_laws.proofs.Accepted.{layers_accepted}
 use Rattle.lists.specs.Table.{filled_at}
 use Rattle.lists.specs.Rows.{wrote, wrote_at, wrote_length}
 use Rattle.layer_instances.specs.Records.{records_in, is_stranger}

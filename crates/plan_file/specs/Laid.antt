@@ -38,7 +38,8 @@ use Rattle.plan_sheet.specs.Planned.{PlanSheet, planned_sheet, sheet_from}
 use Rattle.plan_sheet.specs.Laid.{plan_in, told_of, placed_at, laid_in, Lays}
 use Rattle.plan_sheet.specs.LaidLaws.{laid_roomy}
 use Rattle.plan_sheet.specs.Room.{fitting, Roomy}
-use Rattle.plan_laws.specs.Accepted.{Taken, Lists, points_accepted, points_lists, layers_accepted, layers_lists}
+use Rattle.plan_laws.specs.Accepted.{Taken, Lists, points_lists, layers_lists}
+use Rattle.plan_laws.proofs.Accepted.{points_accepted, layers_accepted}
 use Rattle.plan_laws.specs.Laid as Laws
 use Rattle.plan_laws.specs.Laid.{laid_left, left_made, line_laid, sections_are}
 use Rattle.plan_laws.specs.Fits.{Modest, points_modest, layers_modest, fits_small, fits_long, long_room}

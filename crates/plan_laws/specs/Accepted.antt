@@ -1,4 +1,4 @@
--- The planned sheet of an accepted order is accepted, by either placer and for every number of boxes to consider.
+-- What the plan of an accepted order holds, and when its sheet is accepted. That it is, by either placer, stands in proofs/Accepted.antt.
 use Rattle.std.specs.Prelude.{◌≡◌, refl, false, List, ℕ, zero, suc, ◌<◌, ◌≤◌, get_or, Float}
 use Rattle.std.proofs.Common.{◌∙◌, arith, le-ltb}
 use Rattle.domain.specs.Bounds.{most_kinds, most_boxes, most_lines, most_unplaced}
@@ -17,12 +17,8 @@ use Rattle.plan_unplaced.specs.Anew.{anew_refusal}
 use Rattle.plan_sheet.specs.Plans.{Plan, blank_line, planned_of, plan_refusal}
 use Rattle.plan_sheet.specs.Planned.{widened, planned_sheet, sheet_from}
 use Rattle.point_stow.specs.Stow.{Stowed}
-use Rattle.point_state.specs.Fresh.{fresh_of}
-use Rattle.point_laws.specs.Reach.{start}
 use Rattle.lists.specs.Table.{table, table_at}
-use Rattle.point_run.specs.Order.{falling_boxes}
-use Rattle.point_run.specs.Runs.{line_by, line_of, plan_from, run_of, ep_packing_of}
-use Rattle.point_laws.specs.Reached.{stow_reached}
+use Rattle.point_run.specs.Runs.{line_by, line_of, plan_from, ep_packing_of}
 use Rattle.point_run.specs.Kinds.{boxes_few}
 use Rattle.point_laws.specs.Told.{considers, run_by, placed_few}
 use Rattle.plan_sheet.specs.Boxes.{smaller}
@@ -33,9 +29,8 @@ use Rattle.layer_plan.specs.Offers.{best_offer, item_offer, item_count}
 use Rattle.layer_plan.specs.Fills as Fills
 use Rattle.layer_plan.specs.Fills.{layer_fill_of, items_refusal, place_items_of, smaller_le, turns_few, items_right}
 use Rattle.plan_boxes.specs.Orders.{some_boxes, boxes_are}
-use Rattle.plan_laws.specs.Spots.{sized, no_fault}
-use Rattle.plan_laws.specs.Points.{Housed, reached_housed}
-use Rattle.plan_laws.specs.Layers.{InOrder, fill_right}
+use Rattle.plan_laws.specs.Spots.{no_fault}
+use Rattle.plan_laws.specs.Points.{Housed}
 
 -- what a plan made of lines holds: it is not refused, and has these lines and no more unplaced ids than there are kinds
 pub record Holds (p : Plan) (lines : List Line) (n : ℕ) : Type 0 where
@@ -95,7 +90,7 @@ lines_right : (lines : List Line) (n : ℕ) → ((i : ℕ) → i < n → line_fa
 unfolding line_fault_in
 lines_right lines n h = all_none (line_fault_in lines) n h
 
-sheet_right : (order : Sheet) (p : Plan) (lines : List Line) (n : ℕ) → sheet_refusal order ≡ 0 → n ≤ most_lines → Holds p lines n
+pub sheet_right : (order : Sheet) (p : Plan) (lines : List Line) (n : ℕ) → sheet_refusal order ≡ 0 → n ≤ most_lines → Holds p lines n
     → ((i : ℕ) → i < n → line_fault (get_or lines i no_line) ≡ 0) → Taken order p
 sheet_right order p lines n z few h right =
     let a : p.placed ≤ most_lines = rw h.placed_are few in
@@ -107,17 +102,7 @@ sheet_right order p lines n z few h right =
 
 -- ---- extreme points
 
--- a run from a fresh state of an accepted order's container
-run_housed : (order : Sheet) (consider : ℕ) → sheet_refusal order ≡ 0 → Housed (run_by order consider).next
-unfolding run_of
-run_housed order consider z =
-    let fair : (fresh_of order.container).refused ≡ 0 = rw (accepted order z).container_right in
-    reached_housed
-    (stow_reached (fresh_of order.container).set order.kinds (falling_boxes order.kinds (boxes_in order.kinds order.many.kinds))
-    (considers order consider)
-    (start order.container fair))
-
-line_right : (f : Stowed) (n i : ℕ) → n ≤ most_boxes → i < n → Housed f.next → f.next.held ≡ n
+pub line_right : (f : Stowed) (n i : ℕ) → n ≤ most_boxes → i < n → Housed f.next → f.next.held ≡ n
     → line_fault (get_or (table blank_line most_lines (line_of f) n) i no_line) ≡ 0
 unfolding line_by
 line_right f n i few l h e =
@@ -131,18 +116,6 @@ held_few order consider z =
     let b = boxes_few order (accepted order z) in
     omega arith
 
-pub points_accepted : (order : Sheet) (consider : ℕ) → sheet_refusal order ≡ 0 → Taken order (ep_packing_of order consider)
-unfolding ep_packing_of plan_from
-points_accepted order consider z =
-    let f = run_by order consider in
-    let n = f.next.held in
-    let few = held_few order consider z in
-    rw z
-    (sheet_right order _ (table blank_line most_lines (line_of f) n) n z few
-    (planned_holds order.kinds order.many.kinds (table blank_line most_lines (line_of f) n) n (considers order consider) _
-    (accepted order z).few_of.kinds few)
-    (λ i l. line_right f n i few l (run_housed order consider z) refl))
-
 pub points_lists : (order : Sheet) (consider : ℕ) → sheet_refusal order ≡ 0 → Lists order.kinds order.many.kinds (ep_packing_of order consider)
 unfolding ep_packing_of plan_from
 points_lists order consider z =
@@ -154,44 +127,25 @@ points_lists order consider z =
 -- ---- layers
 
 -- the kinds of an accepted order's turns are right
-turn_measures : (order : Sheet) → Accepted order → (t : ℕ) → t < boxes_in order.kinds order.many.kinds
+pub turn_measures : (order : Sheet) → Accepted order → (t : ℕ) → t < boxes_in order.kinds order.many.kinds
     → measure_fault (get_or order.kinds (turn_of order.kinds t).kind no_kind) ≡ false
 turn_measures order a t l =
     let e = boxes_are order a in
     let r = turn_right order.kinds order.many.kinds (some_boxes order a) t (omega arith) in
     (a.kind_sound (turn_of order.kinds t).kind r.kind_is).measures_right
 
-stow_accepted : (order : Sheet) (f : LayerFill) (n : ℕ) → sheet_refusal order ≡ 0 → InOrder order.container f → f.count ≤ most_lines
-    → Taken order (Fills.plan_from order.kinds order.many.kinds f n)
-unfolding Fills.plan_from
-stow_accepted order f n z o few =
-    sheet_right order _ f.lines f.count z few
-    (planned_holds order.kinds order.many.kinds f.lines f.count n _ (accepted order z).few_of.kinds few)
-    (λ i l. no_fault (get_or f.lines i no_line) (o.range i l))
-
 -- the fill over as many boxes as are considered, and its lines
-abbrev number : Sheet → ℕ → ℕ
+abbrev pub number : Sheet → ℕ → ℕ
 number order consider = smaller consider (boxes_in order.kinds order.many.kinds)
 
-abbrev fill_to : Sheet → ℕ → LayerFill
+abbrev pub fill_to : Sheet → ℕ → LayerFill
 fill_to order consider = run_from (empty order.container) order.kinds (best_offer order.kinds) (number order consider)
 
-count_few : (order : Sheet) (consider : ℕ) → sheet_refusal order ≡ 0 → (fill_to order consider).count ≤ most_lines
+pub count_few : (order : Sheet) (consider : ℕ) → sheet_refusal order ≡ 0 → (fill_to order consider).count ≤ most_lines
 count_few order consider z =
     let m = turns_few order (accepted order z) consider in
     let c = run_few (empty order.container) order.kinds (best_offer order.kinds) (number order consider) in
     omega arith
-
-pub layers_accepted : (order : Sheet) (consider : ℕ) → sheet_refusal order ≡ 0 → Taken order (layer_fill_of order consider)
-unfolding layer_fill_of
-layers_accepted order consider z =
-    let a = accepted order z in
-    let l = smaller_le consider (boxes_in order.kinds order.many.kinds) in
-    rw z
-    (stow_accepted order (fill_to order consider) (number order consider) z
-    (fill_right order.container order.kinds (number order consider) (sized order.container a.container_right) (turns_few order a consider)
-    (λ t k. turn_measures order a t (omega arith)))
-    (count_few order consider z))
 
 pub layers_lists : (order : Sheet) (consider : ℕ) → sheet_refusal order ≡ 0 → Lists order.kinds order.many.kinds (layer_fill_of order consider)
 unfolding layer_fill_of Fills.plan_from

@@ -1,5 +1,5 @@
--- The lines of a fill by layers are in range: the cursor is nowhere negative, and a box is placed only where it ends within the far limits.
-use Rattle.std.specs.Prelude.{◌≡◌, refl, Bool, true, false, List, [], ◌∷◌, ℕ, zero, suc, ◌+◌, ◌<◌, ◌≤◌, eqb, length, get_or, set, Float}
+-- The cursor of a fill by layers is nowhere negative. That its lines are in range stands in proofs/Layers.antt.
+use Rattle.std.specs.Prelude.{◌≡◌, refl, Bool, true, false, List, ℕ, ◌+◌, ◌<◌, eqb, length, get_or, set, Float}
 use Rattle.std.proofs.Common.{sym, ◌∙◌, not-suc-le-zero, arith, eqb-true, length-set, get_or-set_same, get_or-set_other}
 use Rattle.std.proofs.lemmas.Bool.{eqb-false}
 use Rattle.std.specs.Float.{binary64}
@@ -10,26 +10,18 @@ use Rattle.floats.specs.Order.{signed}
 use Rattle.floats.specs.Sums.{add_signed}
 use Rattle.floats.specs.Weak.{true_false}
 use Rattle.domain.specs.Bounds.{most_boxes}
-use Rattle.lists.specs.Bools.{or_left, or_right}
 use Rattle.measures.specs.declared.Container.{Container}
-use Rattle.measures.specs.declared.Kind.{Kind}
-use Rattle.measures.specs.Orders.{lengths_in}
-use Rattle.measures.specs.Faults.{measure_fault}
-use Rattle.sheet.specs.Sheets.{no_kind, no_line}
-use Rattle.plan_boxes.specs.Turns.{turn_of}
+use Rattle.sheet.specs.Sheets.{no_line}
 use Rattle.layer_cursor.specs.declared.LayerCursor.{LayerCursor}
 use Rattle.layer_cursor.specs.declared.LayerSpot.{LayerSpot}
 use Rattle.layer_state.specs.declared.stand.Stand.{Stand}
 use Rattle.layer_state.specs.declared.stand.Step.{Step}
 use Rattle.layer_fill.specs.declared.LayerFill.{LayerFill}
-use Rattle.layer_cursor.specs.Spot.{new_row, new_layer, over, past, turn_to, spot_of}
-use Rattle.layer_state.specs.Stand.{new_of, mass_allows, spot_in, settled, turned_of, no_step}
-use Rattle.layer_state.specs.Best.{best_for, place_best_of}
+use Rattle.layer_cursor.specs.Spot.{new_row, new_layer, past, turn_to}
+use Rattle.layer_state.specs.Stand.{new_of, no_step}
 use Rattle.layer_fill.specs.Fill.{no_lines, empty, line_of, took}
 use Rattle.lists.specs.Bools.{cond_cases}
-use Rattle.layer_plan.specs.Run.{offered, run_from, run_few}
-use Rattle.layer_plan.specs.Offers.{best_offer}
-use Rattle.plan_laws.specs.Spots.{Lengths, lengths_in_lem, Sized, InRange, not_negative, layer_axis}
+use Rattle.plan_laws.specs.Spots.{Lengths, Sized, InRange, not_negative}
 
 -- ---- the cursor
 
@@ -82,7 +74,7 @@ module _ (b : Container) (max : List Float) (s : Sized b) where
   pub turn_ahead : (c : LayerCursor) (size : List Float) → Ahead c → Ahead (turn_to b max c size)
   turn_ahead c size h = layer_ahead (new_row b max c (Ops.x size)) (Ops.y size) (row_ahead c (Ops.x size) h)
 
-  past_ahead : (c : LayerCursor) (size : List Float) → Lengths size → Ahead c → Ahead (past b c size)
+  pub past_ahead : (c : LayerCursor) (size : List Float) → Lengths size → Ahead c → Ahead (past b c size)
   past_ahead c size l h =
       record {
         x_is = plus (c.x ⊕ Ops.x size) b.spacing (plus c.x (Ops.x size) h.x_is (not_negative (Ops.x size) l.x_is)) s.spacing;
@@ -105,57 +97,12 @@ pub record Kept (b : Container) (r : Step) : Type 0 where
   pub stand : Right b r.next
 
 module _ (b : Container) (sz : Sized b) where
-  -- a box at the cursor that is over on no axis
-  spot_range : (c : LayerCursor) (size : List Float) → Lengths size → Ahead c → over (new_of b).max c size ≡ false → InRange (c.x ∷ c.y ∷ c.z ∷ [])
-  spot_range c size l h e =
-      let m = (new_of b).max in
-      let f = or_right (lt (Ops.x m) (c.x ⊕ Ops.x size)) _ e in
-      record {
-        x_is =
-            layer_axis (Ops.x b.size) b.margin c.x (Ops.x size) sz.lengths.x_is sz.margin h.x_is l.x_is
-            (or_left (lt (Ops.x m) (c.x ⊕ Ops.x size)) _ e);
-        y_is =
-            layer_axis (Ops.y b.size) b.margin c.y (Ops.y size) sz.lengths.y_is sz.margin h.y_is l.y_is
-            (or_left (lt (Ops.y m) (c.y ⊕ Ops.y size)) _ f);
-        z_is =
-            layer_axis (Ops.z b.size) b.margin c.z (Ops.z size) sz.lengths.z_is sz.margin h.z_is l.z_is
-            (or_right (lt (Ops.y m) (c.y ⊕ Ops.y size)) _ f);
-      }
-
-  record Spot (p : LayerSpot) : Type 0 where
-    range : p.fits ≡ true → InRange p.at
-    next_ahead : Ahead p.next
-
-  spot_right : (c : LayerCursor) (size : List Float) → Lengths size → Ahead c → Spot (spot_of b (new_of b).max c size)
-  unfolding spot_of
-  spot_right c size l h =
-      let m = (new_of b).max in
-      let t = turn_ahead b m sz c size h in
-      cond_cases Spot (over m (turn_to b m c size) size)
-      (λ _. record { range = λ e. true_false (sym e); next_ahead = h })
-      (λ e. record { range = λ _. spot_range (turn_to b m c size) size l t e; next_ahead = past_ahead b m sz (turn_to b m c size) size l t })
+  pub record Spot (p : LayerSpot) : Type 0 where
+    pub range : p.fits ≡ true → InRange p.at
+    pub next_ahead : Ahead p.next
 
   pub none_kept : (s : Stand) → Right b s → Kept b (no_step s)
   none_kept s r = record { spot = λ e. true_false (sym e); stand = r }
-
-  pub turned_kept : (s : Stand) (k : Kind) (o : ℕ) → measure_fault k ≡ false → Right b s → Kept b (turned_of s k o)
-  unfolding settled
-  turned_kept s k o e r =
-      let p : Spot (spot_in s k o) = rw (r.container_is, r.max_is) (spot_right s.cursor (lengths_in k o) (lengths_in_lem k o e) r.ahead) in
-      cond_cases (Kept b) (spot_in s k o).fits
-      (λ f.
-      record {
-        spot = λ _. p.range f;
-        stand = record { container_is = r.container_is; max_is = r.max_is; ahead = p.next_ahead };
-      })
-      (λ _. none_kept s r)
-
-  pub best_kept : (s : Stand) (k : Kind) → measure_fault k ≡ false → Right b s → Kept b (place_best_of s k)
-  unfolding place_best_of
-  best_kept s k e r =
-      cond_cases (Kept b) (mass_allows s k)
-      (λ _. cond_cases (Kept b) (best_for s k).found (λ _. turned_kept s k (best_for s k).orientation e r) (λ _. none_kept s r))
-      (λ _. none_kept s r)
 
 -- ---- a fill
 
@@ -164,7 +111,7 @@ pub record InOrder (b : Container) (f : LayerFill) : Type 0 where
   pub stand : Right b f.stand
   pub range : (j : ℕ) → j < f.count → InRange (get_or f.lines j no_line).at
 
-empty_right : (b : Container) → Sized b → InOrder b (empty b)
+pub empty_right : (b : Container) → Sized b → InOrder b (empty b)
 unfolding no_lines
 empty_right b s =
     record {
@@ -178,7 +125,7 @@ empty_right b s =
       range = λ j l. absurd (not-suc-le-zero l);
     }
 
-took_right : (b : Container) (f : LayerFill) (r : Step) (id instance : ℕ) → f.count < most_boxes → InOrder b f → Kept b r → InOrder b (took f r id instance)
+pub took_right : (b : Container) (f : LayerFill) (r : Step) (id instance : ℕ) → f.count < most_boxes → InOrder b f → Kept b r → InOrder b (took f r id instance)
 unfolding took
 took_right b f r id instance room h k =
     cond_cases (InOrder b) r.fits
@@ -197,20 +144,3 @@ took_right b f r id instance room h k =
     line j l e false q =
         let d = eqb-false j f.count q in
         rw (get_or-set_other f.lines f.count j (line_of r id instance) no_line d) (h.range j (omega (arith, d)))
-
-offered_right : (b : Container) (f : LayerFill) (kinds : List Kind) (n : ℕ) → Sized b → f.count < most_boxes
-    → measure_fault (get_or kinds (turn_of kinds n).kind no_kind) ≡ false → InOrder b f → InOrder b (offered f kinds (best_offer kinds n))
-unfolding offered best_offer
-offered_right b f kinds n s room e h =
-    let k = get_or kinds (turn_of kinds n).kind no_kind in
-    took_right b f (place_best_of f.stand k) k.id (turn_of kinds n).instance room h (best_kept b s f.stand k e h.stand)
-
--- every fill of boxes of right kinds
-pub fill_right : (b : Container) (kinds : List Kind) (n : ℕ) → Sized b → n ≤ most_boxes
-    → ((t : ℕ) → t < n → measure_fault (get_or kinds (turn_of kinds t).kind no_kind) ≡ false) → InOrder b (run_from (empty b) kinds (best_offer kinds) n)
-unfolding run_from
-fill_right b kinds zero s few right = empty_right b s
-fill_right b kinds (suc n) s few right =
-    let c = run_few (empty b) kinds (best_offer kinds) n in
-    offered_right b (run_from (empty b) kinds (best_offer kinds) n) kinds n s (omega arith) (right n (omega arith))
-    (fill_right b kinds n s (omega arith) (λ t l. right t (omega arith)))

@@ -1,4 +1,4 @@
--- A planned sheet has no finding 10 or 11: the plan's unplaced list is just what the checker asks for.
+-- A sheet whose unplaced ids are what its own lines leave has no finding 10 or 11. That a planned sheet is so stands in proofs/NoneLost.antt.
 use Rattle.std.specs.Prelude.{◌≡◌, Bool, ℕ, ◌<◌, ◌≤◌}
 use Rattle.std.proofs.Math.Path.{refl}
 use Rattle.std.proofs.Common.{sym, ◌∙◌, ap, le_refl, arith}
@@ -17,8 +17,6 @@ use Rattle.plan_unplaced.specs.Short.{is_short, names_of}
 use Rattle.plan_unplaced.specs.Left.{short_kind, flags_of, left_after, left_few}
 use Rattle.plan_sheet.specs.Plans.{Plan}
 use Rattle.plan_sheet.specs.Planned.{planned_sheet}
-use Rattle.point_run.specs.Runs.{ep_packing_of}
-use Rattle.layer_plan.specs.Fills.{layer_fill_of}
 use Rattle.lists.specs.Below.{all_below, all_none, is_at}
 use Rattle.check_packing.specs.Lines.{short}
 use Rattle.check_list.specs.Finding.{lost_words, wrong_words}
@@ -26,7 +24,7 @@ use Rattle.check_list.specs.View.{lost_found, wrong_found}
 use Rattle.check_packing.specs.Findings.{missing, wrongly_listed}
 use Rattle.check_packing.proofs.ById.{own_kind}
 use Rattle.check_packing.proofs.Packed.{packed_distinct}
-use Rattle.plan_laws.specs.Accepted.{Lists, points_accepted, points_lists, layers_accepted, layers_lists}
+use Rattle.plan_laws.specs.Accepted.{Lists}
 use Rattle.plan_laws.specs.Listed.{flag_at, Apart, Entry, flagged_listed, entries}
 
 -- ---- the two counts are one: a kind is short for the checker where it is for the unplaced list
@@ -95,7 +93,7 @@ module _ (s : Sheet) (a : Accepted s) where
 
 -- ---- and a planned sheet is so
 
-sheet_none_lost : (order : Sheet) (p : Plan) → sheet_refusal order ≡ 0 → sheet_refusal (planned_sheet order p) ≡ 0 → Lists order.kinds order.many.kinds p
+pub sheet_none_lost : (order : Sheet) (p : Plan) → sheet_refusal order ≡ 0 → sheet_refusal (planned_sheet order p) ≡ 0 → Lists order.kinds order.many.kinds p
     → NoneLost (planned_sheet order p)
 unfolding planned_sheet
 sheet_none_lost order p z t h =
@@ -106,11 +104,3 @@ sheet_none_lost order p z t h =
     let m = (accepted order z).few_of.kinds in
     none_lost s (accepted s t) h.count_is
     (λ j l. table_at 0 most_unplaced (λ i. get_or p.ids i 0) most_kinds j 0 (omega arith) (omega arith) ∙ ap (λ (ids : List ℕ). get_or ids j 0) h.ids_are)
-
-pub points_none_lost : (order : Sheet) (consider : ℕ) → sheet_refusal order ≡ 0 → NoneLost (planned_sheet order (ep_packing_of order consider))
-points_none_lost order consider z =
-    sheet_none_lost order (ep_packing_of order consider) z (points_accepted order consider z).sheet_accepted (points_lists order consider z)
-
-pub layers_none_lost : (order : Sheet) (consider : ℕ) → sheet_refusal order ≡ 0 → NoneLost (planned_sheet order (layer_fill_of order consider))
-layers_none_lost order consider z =
-    sheet_none_lost order (layer_fill_of order consider) z (layers_accepted order consider z).sheet_accepted (layers_lists order consider z)

@@ -1,15 +1,14 @@
--- Which positions are in range: a box that ends within the container, by either placer's test, begins at a position that a sheet may have.
+-- Lengths, measures and positions in range. That a box which ends within the container begins at such a position stands in proofs/Spots.antt.
 use Rattle.std.specs.Prelude.{◌≡◌, Bool, true, false, not, ◌||◌, List, [], ℕ, zero, suc, T, ltb, length, get_or, Float}
 use Rattle.std.proofs.Common.{sym, subst}
-use Rattle.std.specs.Float.{nan, inf, fin, binary64}
-use Rattle.std.specs.Float.Ieee.{of_bits, lt, le, neg, is_nan}
+use Rattle.std.specs.Float.{nan, inf, fin}
+use Rattle.std.specs.Float.Ieee.{of_bits, le, neg, is_nan}
 use Rattle.std.specs.Float.Ieee.Bits.{is_true}
 use Rattle.std.specs.Float.Ieee.Scale.{finite}
-use Rattle.floats.specs.Ops.{x, y, z, ◌⊕◌, ◌⊖◌}
-use Rattle.floats.specs.Order.{signed, signed_number, le_chain, le_number_l, nlt→le}
-use Rattle.floats.specs.Sums.{add_commutes, add_signed}
-use Rattle.floats.specs.Numbers.{add_number, finite_between}
-use Rattle.domain.specs.Ranges.{least_length, most, is_length, is_measure, is_position, slack}
+use Rattle.floats.specs.Ops.{x, y, z, ◌⊖◌}
+use Rattle.floats.specs.Order.{signed}
+use Rattle.floats.specs.Numbers.{finite_between}
+use Rattle.domain.specs.Ranges.{least_length, most, is_length, is_measure, is_position}
 use Rattle.lists.specs.Bools.{or_left, or_right, and_left, and_right, not_true_of, cond_cases}
 use Rattle.domain.specs.Laws.{or_else_first, or_else_second, when_none}
 use Rattle.domain.specs.Refusals.{when}
@@ -19,12 +18,12 @@ use Rattle.measures.specs.Orders.{orders, share_of, turned, lengths_in}
 use Rattle.measures.specs.Faults.{record_fault, measure_fault, kind_fault, container_fault}
 use Rattle.sheet.specs.declared.Line.{Line}
 use Rattle.sheet.specs.Sheets.{line_fault}
-use Rattle.plan_laws.specs.Top.{less_top, more_top, end_top, low_none, low_eps, length_signed, measure_signed}
+use Rattle.plan_laws.specs.Top.{less_top, length_signed, measure_signed}
 
 holds : {b : Bool} → b ≡ true → T b
 holds e = subst T (sym e) tt
 
-fails : {b : Bool} → b ≡ false → T (not b)
+pub fails : {b : Bool} → b ≡ false → T (not b)
 fails e = subst (λ (t : Bool). T (not t)) (sym e) tt
 
 -- ---- three lengths, and three measures of a container
@@ -93,13 +92,13 @@ sized c e =
 
 -- ---- what a length is
 
-least : (v : Float) → is_length v ≡ true → T (le least_length v)
+pub least : (v : Float) → is_length v ≡ true → T (le least_length v)
 least v e = holds (and_left (le least_length v) (le v most) e)
 
 at_most : (v : Float) → is_length v ≡ true → T (le v most)
 at_most v e = holds (and_right (le least_length v) (le v most) e)
 
-length_finite : (v : Float) → is_length v ≡ true → T (finite v)
+pub length_finite : (v : Float) → is_length v ≡ true → T (finite v)
 unfolding of_bits
 length_finite v e = finite_between least_length v most tt tt (least v e) (at_most v e)
 
@@ -119,10 +118,10 @@ no_fault l h = rw (h.x_is, h.y_is, h.z_is)
 
 -- ---- on one axis
 
-between : (v : Float) → T (le (neg most) v) → T (le v most) → is_position v ≡ true
+pub between : (v : Float) → T (le (neg most) v) → T (le v most) → is_position v ≡ true
 between v p q = rw (is_true (le (neg most) v) p, is_true (le v most) q)
 
-number_r : (v w : Float) → T (le v w) → T (not (is_nan w))
+pub number_r : (v w : Float) → T (le v w) → T (not (is_nan w))
 unfolding le is_nan
 number_r nan w h = absurd h
 number_r (inf s) nan h = absurd h
@@ -133,29 +132,5 @@ number_r (fin s m e) (inf t) h = tt
 number_r (fin s m e) (fin t n d) h = tt
 
 -- the far limit of the layer placer, and with E that of the other
-limit_top : (size margin : Float) → is_length size ≡ true → signed false margin → T (le (size ⊖ margin) most)
+pub limit_top : (size margin : Float) → is_length size ≡ true → signed false margin → T (le (size ⊖ margin) most)
 limit_top size margin h p = less_top size margin (at_most size h) p
-
--- RULES: Second placer: cursor. No, where x + width is over the far limit; where it is not, x is in range
-pub layer_axis : (size margin at len : Float) → is_length size ≡ true → signed false margin → signed false at → is_length len ≡ true
-    → lt (size ⊖ margin) (at ⊕ len) ≡ false → is_position at ≡ true
-layer_axis size margin at len h p q k e =
-    let top = limit_top size margin h p in
-    let far : T (le (at ⊕ len) (size ⊖ margin)) =
-    nlt→le (size ⊖ margin) (at ⊕ len) (le_number_l (size ⊖ margin) most top)
-    (signed_number false (at ⊕ len) (add_signed binary64 at len q (not_negative len k))) (fails e) in
-    between at (low_none at q) (end_top at len (signed_number false at q) (least len k) (le_chain (at ⊕ len) (size ⊖ margin) most far top))
-
--- RULES: First placer: point test. A box that is inside, up to the slack at both ends, stands at a position in range
-pub point_axis : (size margin at len : Float) → is_length size ≡ true → signed false margin → T (not (is_nan at)) → is_length len ≡ true
-    → lt at (margin ⊖ slack) ≡ false → lt (size ⊖ margin ⊕ slack) (at ⊕ len) ≡ false → is_position at ≡ true
-point_axis size margin at len h p q k e f =
-    let low = low_eps margin p in
-    let top = more_top (size ⊖ margin) (limit_top size margin h p) in
-    let near : T (le (margin ⊖ slack) at) = nlt→le at (margin ⊖ slack) q (number_r (neg most) (margin ⊖ slack) low) (fails e) in
-    let number : T (not (is_nan (at ⊕ len))) =
-    subst (λ (v : Float). T (not (is_nan v))) (add_commutes binary64 len at) (add_number binary64 len at (length_finite len k) q) in
-    let far : T (le (at ⊕ len) (size ⊖ margin ⊕ slack)) =
-    nlt→le (size ⊖ margin ⊕ slack) (at ⊕ len) (le_number_l (size ⊖ margin ⊕ slack) most top) number (fails f) in
-    between at (le_chain (neg most) (margin ⊖ slack) at low near)
-    (end_top at len q (least len k) (le_chain (at ⊕ len) (size ⊖ margin ⊕ slack) most far top))
