@@ -17,8 +17,8 @@ use Rattle.layer_fill.specs.declared.LayerFill.{LayerFill}
 use Rattle.layer_plan.specs.Fills as Fills
 use Rattle.layer_plan.specs.Fills.{layer_fill_of, smaller_le, turns_few}
 use Rattle.plan_laws.specs.Spots.{sized, no_fault}
-use Rattle.plan_laws.specs.Points.{Housed, reached_housed}
-use Rattle.plan_laws.specs.Layers.{InOrder, fill_right}
+use Rattle.plan_laws.specs.Points.{Housed}
+use Rattle.plan_laws.specs.Layers.{InOrder}
 use Rattle.plan_laws.specs.Accepted.{planned_holds, Taken, sheet_right, line_right, held_few, turn_measures, number, fill_to, count_few}
 use Rattle.plan_laws.proofs.Points.{reached_housed}
 use Rattle.plan_laws.proofs.Layers.{fill_right}

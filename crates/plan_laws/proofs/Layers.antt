@@ -23,7 +23,7 @@ use Rattle.layer_fill.specs.Fill.{empty}
 use Rattle.lists.specs.Bools.{cond_cases}
 use Rattle.layer_plan.specs.Run.{offered, run_from, run_few}
 use Rattle.layer_plan.specs.Offers.{best_offer}
-use Rattle.plan_laws.specs.Spots.{Lengths, lengths_in_lem, Sized, InRange, layer_axis}
+use Rattle.plan_laws.specs.Spots.{Lengths, lengths_in_lem, Sized, InRange}
 use Rattle.plan_laws.specs.Layers.{Ahead, turn_ahead, past_ahead, Right, Kept, Spot, none_kept, InOrder, empty_right, took_right}
 use Rattle.plan_laws.proofs.Spots.{layer_axis}
 

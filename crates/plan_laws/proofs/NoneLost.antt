@@ -5,7 +5,7 @@ use Rattle.sheet.specs.Sheets.{sheet_refusal}
 use Rattle.plan_sheet.specs.Planned.{planned_sheet}
 use Rattle.point_run.specs.Runs.{ep_packing_of}
 use Rattle.layer_plan.specs.Fills.{layer_fill_of}
-use Rattle.plan_laws.specs.Accepted.{points_accepted, points_lists, layers_accepted, layers_lists}
+use Rattle.plan_laws.specs.Accepted.{points_lists, layers_lists}
 use Rattle.plan_laws.specs.NoneLost.{NoneLost, sheet_none_lost}
 use Rattle.plan_laws.proofs.Accepted.{points_accepted, layers_accepted}
 

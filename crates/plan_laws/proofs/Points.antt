@@ -21,7 +21,7 @@ use Rattle.point_place.specs.Place.{refusal_of, label_of, placed_by, tried_of, r
 use Rattle.point_laws.specs.Least.{Sound, scan_right}
 use Rattle.point_laws.specs.Clean.{Clean}
 use Rattle.point_laws.specs.Reach.{Reached, start, next, reached_clean}
-use Rattle.plan_laws.specs.Spots.{Lengths, lengths_in_lem, kind_measures, Sized, sized, InRange, point_axis}
+use Rattle.plan_laws.specs.Spots.{Lengths, lengths_in_lem, kind_measures, Sized, sized, InRange}
 use Rattle.plan_laws.specs.Points.{not_false, Housed, settled_housed, fits_inside, fresh_housed}
 use Rattle.plan_laws.proofs.Spots.{point_axis}
 

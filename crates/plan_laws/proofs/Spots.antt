@@ -8,7 +8,7 @@ use Rattle.floats.specs.Order.{signed, signed_number, le_chain, le_number_l, nlt
 use Rattle.floats.specs.Sums.{add_commutes, add_signed}
 use Rattle.floats.specs.Numbers.{add_number}
 use Rattle.domain.specs.Ranges.{most, is_length, is_position, slack}
-use Rattle.plan_laws.specs.Top.{more_top, end_top, low_none, low_eps}
+use Rattle.plan_laws.specs.Top.{more_top, low_none, low_eps}
 use Rattle.plan_laws.specs.Spots.{fails, least, length_finite, not_negative, between, number_r, limit_top}
 use Rattle.plan_laws.proofs.Top.{end_top}
 
