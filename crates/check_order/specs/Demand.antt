@@ -1,4 +1,4 @@
--- Demand 3, as definitions; OrderOfLines.antt has the theorems.
+-- Demand 3, as definitions; proofs/OrderOfLines.antt has the theorems.
 -- "Take two accepted sheets that differ only in the order of their placement lines, with room lent for all findings. By demand 2's meaning, each line gets
 -- the same findings of its own, line numbers and repeats aside; each pair gets the same finding and the same distance; each kind and instance is called
 -- repeated equally often; the findings on unplaced kinds come out identical. If all masses are whole numbers, the mass finding is identical too."

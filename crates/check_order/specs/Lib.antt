@@ -1,4 +1,4 @@
--- That the order of a sheet's lines does not matter to its findings: the statement in Demand, the theorems in OrderOfLines, and what leads to them.
+-- That the order of a sheet's lines does not matter to its findings: the statement in Demand, and what leads to the theorems in proofs/OrderOfLines.antt.
 -- Nor do cells past those that count: Alike.
 pub mod Demand
 pub mod ByLine

@@ -1,3 +1,3 @@
-// That the order of a sheet's lines does not matter to its check_list: theorems over the checker's definitions, in specs/.
+// That the order of a sheet's lines does not matter to its findings: theorems over the checker's definitions, in specs/ and proofs/.
 
 #![tactic(auto)]
