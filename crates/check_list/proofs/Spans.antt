@@ -26,7 +26,8 @@ boxed_spans : (s e : Extent) → spans (boxed_by s) e ≡ spans s e
 unfolding spans
 boxed_spans s e = refl
 
-module _ (rows : List Float) (j n r : ℕ) (s : Extent) (l : j < n) (b : BlockEnd j n r) (few : n ≤ most_lines) (long : length rows ≡ 6 * (most_lines / block)) where
+module _ (rows : List Float) (j n r : ℕ) (s : Extent) (l : j < n) (b : BlockEnd j n r)
+    (few : n ≤ most_lines) (long : length rows ≡ 6 * (most_lines / block)) where
   row_there : j / block < length rows / 6
   row_there = rw long (omega arith)
 
@@ -55,9 +56,12 @@ module _ (rows : List Float) (j n r : ℕ) (s : Extent) (l : j < n) (b : BlockEn
           ]
 
 -- without good spans nothing is told
-pub told_far : (boxes rows : List Float) (n : ℕ) (good : Bool) → (good ≡ true → Spanned boxes n rows) → (limit reach : Float) → reach ≡ cond good limit (none ⊘ none)
+pub told_far : (boxes rows : List Float) (n : ℕ) (good : Bool) → (good ≡ true → Spanned boxes n rows)
+    → (limit reach : Float) → reach ≡ cond good limit (none ⊘ none)
     → (i j : ℕ) → i < n → j < n → some_gap reach (gaps (extent_at boxes i) (extent_at rows (j / block))) ≡ true
     → some_gap limit (gaps (extent_at boxes i) (extent_at boxes j)) ≡ true
 told_far boxes rows n true h limit reach e i j l m g =
-    span_far limit (extent_at boxes i) (extent_at rows (j / block)) (extent_at boxes j) (extent_at rows (i / block)) ((h refl).each i l) ((h refl).each j m) (rw e at g)
-told_far boxes rows n false h limit reach e i j l m g = absurd (false≢true (sym (no_number (gaps (extent_at boxes i) (extent_at rows (j / block)))) ∙ (rw e at g)))
+    span_far limit (extent_at boxes i) (extent_at rows (j / block)) (extent_at boxes j) (extent_at rows (i / block))
+    ((h refl).each i l) ((h refl).each j m) (rw e at g)
+told_far boxes rows n false h limit reach e i j l m g =
+    absurd (false≢true (sym (no_number (gaps (extent_at boxes i) (extent_at rows (j / block)))) ∙ (rw e at g)))

@@ -46,6 +46,7 @@ pub file_refused : (f o : List ℕ) (r : ℕ) → refusal_of f ≡ r → (r ≡ 
 unfolding file_checked file_cells
 file_refused f o r e n = record { told = rw (e, ne_eqb r 0 n); cells = rw (e, ne_eqb r 0 n) }
 
-pub file_checked_lem : {f o o' : List ℕ} {r : Checked} → refusal_of f ≡ 0 → (r ≡ checked_of (sheet_of f) o) × (o' ≡ cells_of (sheet_of f) o) → CheckedFile f o r o'
+pub file_checked_lem : {f o o' : List ℕ} {r : Checked} → refusal_of f ≡ 0 → (r ≡ checked_of (sheet_of f) o) × (o' ≡ cells_of (sheet_of f) o)
+    → CheckedFile f o r o'
 unfolding file_checked file_cells
 file_checked_lem e h = record { told = rw e h.0; cells = rw e h.1 }

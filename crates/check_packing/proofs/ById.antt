@@ -57,7 +57,8 @@ module _ (kinds : List Kind) (id : ℕ) where
   kind_none (suc n) h = rw (kind_none n (λ j l. h j (omega arith)), le-ltb n n (omega arith), h n (omega arith))
 
   -- the first that has it is found
-  pub kind_first : (k n : ℕ) → k < n → (get_or kinds k no_kind).id ≡ id → ((j : ℕ) → j < k → eqb (get_or kinds j no_kind).id id ≡ false) → kind_below kinds id n ≡ k
+  pub kind_first : (k n : ℕ) → k < n → (get_or kinds k no_kind).id ≡ id → ((j : ℕ) → j < k → eqb (get_or kinds j no_kind).id id ≡ false)
+      → kind_below kinds id n ≡ k
   unfolding kind_below
   kind_first k zero l e h = absurd (not-suc-le-zero l)
   kind_first k (suc n) l e h =

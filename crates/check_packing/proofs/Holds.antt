@@ -113,7 +113,8 @@ module _ (f : List ℕ) (a : taking.Accepted.Accepted) (t : Taken f a) where
   lines_ran {which} {which'} {again} {again'} {boxes} {boxes'} w e g h c ec m em {o} {o'} {r} ran =
       let k : held m which' again' boxes' ≡ s.many = ap (λ (n : Counts). held n which' again' boxes') em ∙ all_held which' again' boxes' (wide_still w e g h) in
       let found =
-      lines_held which' again' boxes' (cells_read which (kind_named s) 0 e w.which_long) (cells_read again (repeats s) false g w.again_long) (rows_read boxes h w.boxes_long) c ec in
+      lines_held which' again' boxes' (cells_read which (kind_named s) 0 e w.which_long) (cells_read again (repeats s) false g w.again_long)
+      (rows_read boxes h w.boxes_long) c ec in
       subst (λ (ws : List ℕ). Ran o 0 (6 * s.many.lines + s.many.lines * s.many.lines / 2) ws r o') found
       (subst (λ (n : Counts). LinesRan f a.start n c which' again' boxes' o r o') k ran)
 

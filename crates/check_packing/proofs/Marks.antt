@@ -222,7 +222,8 @@ module _ (s : Sheet) (A : Accepted s) where
             nothing true = add-zero (get_or packed k 0)
             nothing false = add-zero (get_or packed k 0)
 
-        most : (k : ℕ) → k < most_kinds → (b : Bool) → (b ≡ true → k ≡ k₀) → (b ≡ false → k ≡ k₀ → ⊥) → get_or (set packed k₀ (get_or packed k₀ 0 + one)) k 0 ≤ suc i
+        most : (k : ℕ) → k < most_kinds → (b : Bool) → (b ≡ true → k ≡ k₀) → (b ≡ false → k ≡ k₀ → ⊥)
+            → get_or (set packed k₀ (get_or packed k₀ 0 + one)) k 0 ≤ suc i
         most k l true p q =
             let v = M.few k₀ (let f = A.few_of.kinds in let lw = counts_kind e in omega arith) in
             let o = at_most_one (not (get_or seen at false)) in
@@ -259,7 +260,8 @@ module _ (s : Sheet) (A : Accepted s) where
         go false e = refl
 
     -- one turn: c is whether the line counts, at its mark, w₁ its place in the columns
-    pub turn : (c : Bool) → c ≡ here → (first at w₁ one : ℕ) → (here ≡ true → first ≡ kind_first s w) → (copy₁ : ℕ) → copy₁ ≡ copy → at ≡ slot_of (length seen) first copy₁ c
+    pub turn : (c : Bool) → c ≡ here → (first at w₁ one : ℕ) → (here ≡ true → first ≡ kind_first s w)
+        → (copy₁ : ℕ) → copy₁ ≡ copy → at ≡ slot_of (length seen) first copy₁ c
         → w₁ ≡ place_within w
         → one ≡ when (c && not (get_or seen at false)) 1
         → ((c && get_or seen at false) ≡ repeats s i)
@@ -268,7 +270,8 @@ module _ (s : Sheet) (A : Accepted s) where
     turn c ec first at w₁ one ef copy₁ ey ea ew eo = rw ec (repeats_is at (λ e. own e), go here refl)
       where
         slot_is : here ≡ true → slot_of (length seen) first copy₁ c ≡ kind_first s w + copy
-        slot_is e = rw (ec ∙ e, ef e, ey) (rw (lt-ltb (kind_first s w + copy) (length seen) (in_marks w copy (length seen) (counts_kind e) (counts_copy e) M.long)))
+        slot_is e =
+            rw (ec ∙ e, ef e, ey) (rw (lt-ltb (kind_first s w + copy) (length seen) (in_marks w copy (length seen) (counts_kind e) (counts_copy e) M.long)))
 
         own : here ≡ true → at ≡ kind_first s w + copy
         own e = ea ∙ slot_is e

@@ -70,7 +70,8 @@ module _ (f : List ℕ) (a : taking.Accepted.Accepted) (t : Taken f a) where
     mass_read r m em h = h ∙ rw em (rw (kinds_are, ew) (go (ltb (kind_of (sheet_of f) (line_at (sheet_of f) i).id) (sheet_of f).many.kinds) refl))
       where
         go : (b : Bool) → ltb (kind_of (sheet_of f) (line_at (sheet_of f) i).id) (sheet_of f).many.kinds ≡ b
-            → mass_with (mass_below (sheet_of f) i) b k ≡ mass_with (mass_below (sheet_of f) i) b (kind_at (sheet_of f) (kind_of (sheet_of f) (line_at (sheet_of f) i).id))
+            → mass_with (mass_below (sheet_of f) i) b k
+            ≡ mass_with (mass_below (sheet_of f) i) b (kind_at (sheet_of f) (kind_of (sheet_of f) (line_at (sheet_of f) i).id))
         go true e =
             let l = ltb-true (kind_of (sheet_of f) (line_at (sheet_of f) i).id) (sheet_of f).many.kinds e in
             let q : kind_in f w ≡ kind_at (sheet_of f) (kind_of (sheet_of f) (line_at (sheet_of f) i).id) =
@@ -79,7 +80,8 @@ module _ (f : List ℕ) (a : taking.Accepted.Accepted) (t : Taken f a) where
         go false e = refl
 
   -- whether line i counts, by the columns
-  pub counts_read : (many : List ℕ) → ((k : ℕ) → k < a.kinds → get_or many k 0 ≡ kind_many (sheet_of f) k) → (i : ℕ) (line : Line) → line ≡ line_at (sheet_of f) i
+  pub counts_read : (many : List ℕ) → ((k : ℕ) → k < a.kinds → get_or many k 0 ≡ kind_many (sheet_of f) k)
+      → (i : ℕ) (line : Line) → line ≡ line_at (sheet_of f) i
       → (w w₁ : ℕ) → w ≡ kind_named (sheet_of f) i → w₁ ≡ place_within w
       → (ltb w a.kinds && ltb line.instance (get_or many w₁ 0)) ≡ counted (sheet_of f) (line_at (sheet_of f) i)
   unfolding counted known kind_for kind_named kind_many place_within

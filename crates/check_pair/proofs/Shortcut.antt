@@ -118,11 +118,14 @@ module _ (u v w : Float) where
   second_le : T (le (squared v) all)
   second_le =
       le_chain (squared v) two all
-      (subst (λ (s : Float). T (le (squared v) s)) (add_commutes binary64 (squared v) (squared u)) (add_grows binary64 (squared v) (squared u) (squared_fits v) (squared_signed v) (squared_signed u)))
+      (subst (λ (s : Float). T (le (squared v) s)) (add_commutes binary64 (squared v) (squared u))
+      (add_grows binary64 (squared v) (squared u) (squared_fits v) (squared_signed v) (squared_signed u)))
       two_le
 
   third_le : T (le (squared w) all)
-  third_le = subst (λ (s : Float). T (le (squared w) s)) (add_commutes binary64 (squared w) two) (add_grows binary64 (squared w) two (squared_fits w) (squared_signed w) two_signed)
+  third_le =
+      subst (λ (s : Float). T (le (squared w) s)) (add_commutes binary64 (squared w) two)
+      (add_grows binary64 (squared w) two (squared_fits w) (squared_signed w) two_signed)
 
   -- so the sum is at least the square of what is asked, where one gap is at least that
   within : (asked : Float) → T (positive asked) → T (le asked u || (le asked v || le asked w)) → T (le (asked ⊗ asked) all)
@@ -147,4 +150,5 @@ module _ (u v w : Float) where
 
 pub far_enough_lem : (g : List Float) (asked : Float) → T (fits binary64 asked) → far_enough g asked ≡ true → lt (distance_of g) asked ≡ false
 unfolding distance_of
-far_enough_lem g asked F h = not_below (distance_of g) asked (sqrt_signed binary64 _ (all_signed (x g) (y g) (z g))) (far (x g) (y g) (z g) asked F (subst T (sym h) tt))
+far_enough_lem g asked F h =
+    not_below (distance_of g) asked (sqrt_signed binary64 _ (all_signed (x g) (y g) (z g))) (far (x g) (y g) (z g) asked F (subst T (sym h) tt))

@@ -70,8 +70,11 @@ tame s e a h =
     record {
       near_in = in_near;
       far_in = in_far;
-      near_s = finite_between (neg most_limit) (near_on s a) most_limit low_finite high_finite low (le_chain (near_on s a) (near_on e a) most_limit in_near high_e);
-      far_s = finite_between (neg most_limit) (far_on s a) most_limit low_finite high_finite (le_chain (neg most_limit) (far_on e a) (far_on s a) low_f in_far) high;
+      near_s =
+          finite_between (neg most_limit) (near_on s a) most_limit low_finite high_finite low (le_chain (near_on s a) (near_on e a) most_limit in_near high_e);
+      far_s =
+          finite_between (neg most_limit) (far_on s a) most_limit low_finite high_finite
+          (le_chain (neg most_limit) (far_on e a) (far_on s a) low_f in_far) high;
       near_e = finite_between (neg most_limit) (near_on e a) most_limit low_finite high_finite low_e high_e;
       far_e = finite_between (neg most_limit) (far_on e a) most_limit low_finite high_finite low_f high_f;
     }

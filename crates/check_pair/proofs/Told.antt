@@ -95,7 +95,8 @@ found_is close g asked t f = go (overlaps g t) (lt none (sum_of g) && le (sum_of
     go true n q l r = refl
     go false true q true r = refl
     go false true q false r =
-        true_false (sym (f.fair (sum_of g) (subst T {x = true} (sym (and_left (lt none (sum_of g)) (le (sum_of g) close) q)) tt) (subst T {x = true} (sym (and_right (lt none (sum_of g)) (le (sum_of g) close) q)) tt)) ∙ r)
+        true_false (sym (f.fair (sum_of g) (subst T {x = true} (sym (and_left (lt none (sum_of g)) (le (sum_of g) close) q)) tt)
+        (subst T {x = true} (sym (and_right (lt none (sum_of g)) (le (sum_of g) close) q)) tt)) ∙ r)
     go false false q true r = refl
     go false false q false r = refl
 

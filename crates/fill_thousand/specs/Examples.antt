@@ -31,11 +31,11 @@ loaded width ls n =
       unplaced = replicate most_unplaced 0;
     }
 
-abbrev four_and_aHalf : Float
-four_and_aHalf = of_bits binary64 0x4012000000000000
+abbrev four_and_a_half : Float
+four_and_a_half = of_bits binary64 0x4012000000000000
 
 abbrev both : List Line
-both = placed 7 none ∷ placed 7 four_and_aHalf ∷ []
+both = placed 7 none ∷ placed 7 four_and_a_half ∷ []
 
 -- a sheet's answer
 abbrev filled : ℕ → ℕ → Filled
@@ -44,8 +44,8 @@ filled refused fill = record { refused = refused; fill = fill }
 -- two such cubes in a cube of 10 fill 128 of a thousand. Below it: one line of the two unknown; then widths of 4.5, 100, 10,000 and 10,001
 pub worked :
     (fill_of (loaded (whole 10) both 2) ≡ filled 0 128)
-    × (fill_of (loaded (whole 10) (placed 8 none ∷ placed 7 four_and_aHalf ∷ []) 2) ≡ filled 0 64)
-    × (fill_of (loaded four_and_aHalf both 2) ≡ filled 8 0)
+    × (fill_of (loaded (whole 10) (placed 8 none ∷ placed 7 four_and_a_half ∷ []) 2) ≡ filled 0 64)
+    × (fill_of (loaded four_and_a_half both 2) ≡ filled 8 0)
     × (fill_of (loaded (whole 100) both 2) ≡ filled 0 12)
     × (fill_of (loaded (whole 10000) both 2) ≡ filled 0 0)
     × (fill_of (loaded (whole 10001) both 2) ≡ filled 8 0)

@@ -1,6 +1,6 @@
 -- RULES: Second placer: best orientation. `place_best` takes the orientation of least score among those that fit, and of equal scores the first.
--- So it is in every fill that was opened on an accepted container, whatever was offered to it since: a cursor there is nowhere negative and no
--- NaN, so each score is a number.
+-- So it is in every fill that was opened on an accepted container, whatever was offered to it since (proofs/Best.antt): a cursor there is nowhere
+-- negative and no NaN, so each score is a number.
 use Rattle.std.specs.Prelude.{◌≡◌, refl, Bool, true, false, List, [], ◌∷◌, ℕ, zero, suc, ◌*◌, ◌<◌, eqb, ltb, length, get_or, set, Float}
 use Rattle.std.proofs.Common.{sym, ◌∙◌, ap, true≢false, arith, ne_eqb, get_or-set_same}
 use Rattle.std.specs.Float.{Format, nan, inf, fin, binary64}

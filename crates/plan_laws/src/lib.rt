@@ -1,3 +1,3 @@
-// Theorems on finished plans, in specs/: the planned sheet of an accepted order is accepted, for both placers.
+// Theorems on finished plans, in specs/ and proofs/: the planned sheet of an accepted order is accepted, for both placers.
 
 #![tactic(auto)]
