@@ -22,6 +22,10 @@ class Crate:
             found += [os.path.join(place, name) for name in sorted(names) if name.endswith(ending)]
         return found
 
+    def lemmas(self):
+        """The files of lemmas and theorems in proofs/ itself: not the answers of one function, which stand in a folder of it."""
+        return [path for path in self.files('proofs', '.antt') if os.path.dirname(path) == os.path.join(CRATES, self.name, 'proofs')]
+
     def is_program(self):
         return os.path.isfile(os.path.join(CRATES, self.name, 'src', 'main.rt'))
 

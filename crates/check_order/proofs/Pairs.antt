@@ -21,6 +21,11 @@ use Rattle.check_order.specs.ByLine.{pair_words, verdict_on}
 
 -- ---- what is picked
 
+-- of a pair, either line may stand first
+pair_swapped : (i j : ℕ) (ws : List ℕ) → pick (pair_of i j) ws ≡ pick (pair_of j i) ws
+pair_swapped i j ws = pick_same (pair_of i j) (pair_of j i)
+    (λ f. ap (λ (v : Bool). among f.number (7 ∷ 8 ∷ []) && v) (or_comm (eqb f.first i && eqb f.second j) (eqb f.first j && eqb f.second i))) ws
+
 module _ (s : Sheet) (i j : ℕ) where
   other_pair : i ≤ j → (k m : ℕ) → (k ≡ i → m ≡ j → ⊥) → Each (λ f. pair_of i j f ≡ false) (pair_finding s k m)
   other_pair l k m g = each_pair (λ f. pair_of i j f ≡ false) s k m (λ h c d e a. and_none (among c (7 ∷ 8 ∷ [])) (these i j k m) (not_these i j k m l h g))
@@ -77,10 +82,6 @@ no_pair s i =
     (each_below (λ f. pair_of i i f ≡ false) (pairs_from s) s.many.lines
     (λ k l. each_from (λ f. pair_of i i f ≡ false) s k
     (λ m o h c d e a. and_none (among c (7 ∷ 8 ∷ [])) (these i i k m) (not_these i i k m (omega arith) h (λ p q. omega arith))))))
-
-pair_swapped : (i j : ℕ) (ws : List ℕ) → pick (pair_of i j) ws ≡ pick (pair_of j i) ws
-pair_swapped i j ws = pick_same (pair_of i j) (pair_of j i)
-    (λ f. ap (λ (v : Bool). among f.number (7 ∷ 8 ∷ []) && v) (or_comm (eqb f.first i && eqb f.second j) (eqb f.first j && eqb f.second i))) ws
 
 -- ---- line numbers aside, whichever of the two comes first
 

@@ -11,7 +11,7 @@ use Rattle.file_laws.specs.Typed.{Typed}
 use Rattle.file_laws.specs.Tidy.{tidy, Blank, tidy_blank, tidy_refusal}
 use Rattle.file_laws.specs.WriteRead.{file_shaped, right_shape_lem, write_read}
 
--- **and the file is accepted**
+-- **the file of a sheet that is not refused is accepted**
 pub write_accepted : (s : Sheet) → Typed s → sheet_refusal s ≡ 0 → refusal_of (file_of s) ≡ 0
 write_accepted s typed h =
     let few = (accepted s h).few_of in

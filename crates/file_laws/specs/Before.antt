@@ -17,7 +17,7 @@ pub before_within : Within most_before most_now
 before_within = record { kinds = omega arith; boxes = omega arith; lines = omega arith; unplaced = omega arith }
 
 module _ (f : List ℕ) where
-  -- **and reads the same**
+  -- **a file that was accepted then reads the same**; that it is accepted stands in proofs/Before.antt
   pub reads_since : refusal_by most_before f ≡ 0 → Alike (sheet_by most_before f) (sheet_of f)
   reads_since h = rw (sheet_now f) (reads_alike most_before most_now before_within f h)
 

@@ -15,9 +15,8 @@ use Rattle.sheet.specs.Sheets.{kind_at, line_at, unplaced_at, sheet_refusal}
 use Rattle.sheet.specs.Accepted.{Few, accepted}
 use Rattle.file_bytes.specs.Bytes.{byte, half, word, float, u32_at, part}
 use Rattle.file_read.specs.Form.{block_fields, kind_fields, line_fields, trailer_fields, block_bytes, kind_bytes, line_bytes, id_bytes, trailer_bytes}
-use Rattle.file_read.specs.Form.{most_bytes}
-use Rattle.file_read.specs.Form.{form, letter_l, letter_s, trailer, trailer_of, lines_start, unplaced_start, trailer_start, placed, whole, right_shape}
-use Rattle.file_read.specs.Form.{counts_of}
+use Rattle.file_read.specs.Form.{most_bytes, form, letter_l, letter_s, trailer, trailer_of, lines_start, unplaced_start, trailer_start, placed, whole}
+use Rattle.file_read.specs.Form.{right_shape, counts_of}
 use Rattle.file_read.specs.Reading.{container_of, kind_of, line_of, container_from, kind_from, line_from, kind_place, blank_kind, blank_line}
 use Rattle.file_read.specs.Reading.{kinds_by, lines_by, ids_by, kinds_of, lines_of, ids_of, sheet_of}
 use Rattle.file_write.specs.Writing.{bits_of, container_numbers, kind_numbers, line_numbers, trailer_numbers, container_out, kind_out, line_out, trailer_out}

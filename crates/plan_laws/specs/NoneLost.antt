@@ -91,7 +91,7 @@ module _ (s : Sheet) (a : Accepted s) where
           none_wrong = ap (all_below (wrongly_listed s)) many ∙ all_none (wrongly_listed s) left.count not_wrong;
         }
 
--- ---- and a planned sheet is so
+-- ---- and a planned sheet that is accepted is so
 
 pub sheet_none_lost : (order : Sheet) (p : Plan) → sheet_refusal order ≡ 0 → sheet_refusal (planned_sheet order p) ≡ 0 → Lists order.kinds order.many.kinds p
     → NoneLost (planned_sheet order p)

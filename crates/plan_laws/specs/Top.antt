@@ -130,7 +130,7 @@ pub over_is : le (round binary64 false (1000000000 * 2 ^ 72 + 4722366482869645) 
 unfolding le round of_bits
 over_is = refl
 
--- ---- the two ends
+-- ---- the lower end
 
 -- what is not negative is at least -1,000,000,000
 pub low_none : (v : Float) → signed false v → T (le (neg most) v)
