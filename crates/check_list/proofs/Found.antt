@@ -8,9 +8,9 @@ use native.Mathlib.Nat.{eq-or-lt_of_le}
 use native.Mathlib.Omega.{arith}
 use lib.Dec.{ltb}
 use lib.ListN.{get_or}
-use lib.Ieee.{Float}
 use borrow.Author.Tests.{lt-ltb, le-ltb}
 use Rattle.lists.specs.Below.{all_below, all_same}
+use Rattle.check_pair.specs.declared.Extent.{Extent}
 use Rattle.check_pair.specs.Pair.{gaps, verdict_of}
 use Rattle.check_pair.specs.Shortcut.{some_gap, limit_of}
 use Rattle.check_pair.specs.Tolerance.{tolerance_of}
@@ -20,21 +20,21 @@ use Rattle.check_words.specs.Writes.{only_nothing}
 use Rattle.check_list.specs.declared.Rule.{Rule}
 use Rattle.check_list.specs.Finding.{verdict_words}
 use Rattle.check_list.specs.View.{View, line_found, verdict_found, pair_found, pairs_found, lines_found}
-use Rattle.check_words.specs.Corners.{extent_at}
+use Rattle.check_words.specs.Boxes.{box_at}
 use Rattle.check_list.specs.Held.{view_in, boxes_in}
 use Rattle.check_list.specs.Alike.{pairs_same}
 
-module _ (r : Rule) (which : List ℕ) (boxes : List Float) (i j : ℕ) (o : i < j) where
+module _ (r : Rule) (which : List ℕ) (boxes : List Extent) (i j : ℕ) (o : i < j) where
   -- what lines i and j get by the columns
   pub pair_found_lem : r.slack ≡ tolerance_of r.case.size
       → only_if (ltb (get_or which i 0) r.kinds && ltb (get_or which j 0) r.kinds)
-      (verdict_words i j r.case.spacing (verdict_of (extent_at boxes i) (extent_at boxes j) r.case.spacing r.slack))
+      (verdict_words i j r.case.spacing (verdict_of (box_at boxes i) (box_at boxes j) r.case.spacing r.slack))
       ≡ pair_found (boxes_in r which boxes) i j
   unfolding pair_found verdict_found
   pair_found_lem e = rw (e, lt-ltb i j o)
 
   -- nothing where one gap is at least the limit
-  pub pair_far : some_gap (limit_of r.case.spacing (tolerance_of r.case.size)) (gaps (extent_at boxes i) (extent_at boxes j)) ≡ true
+  pub pair_far : some_gap (limit_of r.case.spacing (tolerance_of r.case.size)) (gaps (box_at boxes i) (box_at boxes j)) ≡ true
       → pair_found (boxes_in r which boxes) i j ≡ []
   unfolding pair_found verdict_found verdict_words
   pair_far f =
@@ -56,7 +56,7 @@ all_skip g from (suc to) l h =
     (eq-or-lt_of_le l)
 
 -- the lines and their pairs together
-pub lines_in : (f : List ℕ) (start : ℕ) (again : List Bool) (r : Rule) (which : List ℕ) (boxes : List Float)
+pub lines_in : (f : List ℕ) (start : ℕ) (again : List Bool) (r : Rule) (which : List ℕ) (boxes : List Extent)
     → all_below (line_found (view_in f start again r which boxes)) r.lines ++ all_below (pairs_found (boxes_in r which boxes)) r.lines
     ≡ lines_found (view_in f start again r which boxes)
 unfolding lines_found

@@ -6,7 +6,8 @@ use Rattle.check_pair.specs.Pair.{gaps}
 use Rattle.check_pair.specs.Close.{Fair}
 use Rattle.check_pair.specs.Shortcut.{some_gap, limit_of}
 use Rattle.check_pair.specs.Span.{spans}
-use Rattle.check_words.specs.Corners.{extent_at}
+use Rattle.check_pair.specs.declared.Extent.{Extent}
+use Rattle.check_words.specs.Boxes.{box_at}
 use Rattle.check_list.specs.declared.Rule.{Rule}
 use Rattle.check_list.specs.declared.pair.Quick.{Quick}
 
@@ -22,8 +23,8 @@ pub record BlockEnd (j n r : ℕ) : Type 0 where
   pub whole : r < n → r ≡ (j / block + 1) * block
 
 -- each of the first n lines is within the span of its block
-pub record Spanned (boxes : List Float) (n : ℕ) (rows : List Float) : Type 0 where
-  pub each : (j : ℕ) → j < n → spans (extent_at rows (j / block)) (extent_at boxes j) ≡ true
+pub record Spanned (boxes : List Extent) (n : ℕ) (rows : List Extent) : Type 0 where
+  pub each : (j : ℕ) → j < n → spans (box_at rows (j / block)) (box_at boxes j) ≡ true
 
 -- what pairs that are to be so far apart are settled by; without good spans no gap is at least `reach`
 pub record Settles (asked t : Float) (spanned : Bool) (q : Quick) : Type 0 where
@@ -32,13 +33,13 @@ pub record Settles (asked t : Float) (spanned : Bool) (q : Quick) : Type 0 where
   pub fair : Fair q.close asked t
 
 -- the columns are long enough, and a span that is far tells that each line of its block is
-pub record Tells (r : Rule) (which : List ℕ) (boxes rows : List Float) (q : Quick) : Type 0 where
+pub record Tells (r : Rule) (which : List ℕ) (boxes rows : List Extent) (q : Quick) : Type 0 where
   pub few : r.lines ≤ most_lines
   pub which_long : r.lines ≤ length which
-  pub boxes_long : 6 * r.lines ≤ length boxes
-  pub rows_long : 6 * (most_lines / block) ≤ length rows
+  pub boxes_long : r.lines ≤ length boxes
+  pub rows_long : most_lines / block ≤ length rows
   pub limit_is : q.limit ≡ limit_of r.case.spacing r.slack
   pub fair : Fair q.close r.case.spacing r.slack
   pub tells :
-      (i j : ℕ) → i < r.lines → j < r.lines → some_gap q.reach (gaps (extent_at boxes i) (extent_at rows (j / block))) ≡ true
-      → some_gap q.limit (gaps (extent_at boxes i) (extent_at boxes j)) ≡ true
+      (i j : ℕ) → i < r.lines → j < r.lines → some_gap q.reach (gaps (box_at boxes i) (box_at rows (j / block))) ≡ true
+      → some_gap q.limit (gaps (box_at boxes i) (box_at boxes j)) ≡ true

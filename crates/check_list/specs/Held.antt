@@ -9,7 +9,8 @@ use Rattle.measures.specs.declared.Container.{Container}
 use Rattle.sheet.specs.declared.Counts.{Counts}
 use Rattle.file_read.specs.Records.{kind_in, line_in}
 use Rattle.check_pair.specs.Tolerance.{tolerance_of}
-use Rattle.check_words.specs.Corners.{extent_at}
+use Rattle.check_pair.specs.declared.Extent.{Extent}
+use Rattle.check_words.specs.Boxes.{box_at}
 use Rattle.check_words.specs.Wrote.{Wrote}
 use Rattle.check_list.specs.declared.Rule.{Rule}
 use Rattle.check_list.specs.Finding.{mass_words, lost_words}
@@ -17,12 +18,12 @@ use Rattle.check_list.specs.View.{View, lines_found, no_counts, fair, fair_few}
 
 -- ---- lines
 
--- columns that lack a cell for one of n lines: the places of their kinds, which are repeated, the corners of their boxes
-abbrev pub narrow : ℕ → List ℕ → List Bool → List Float → Bool
-narrow n which again boxes = ltb (length which) n || (ltb (length again) n || ltb (length boxes) (6 * n))
+-- columns that lack a cell for one of n lines: the places of their kinds, which are repeated, their boxes
+abbrev pub narrow : ℕ → List ℕ → List Bool → List Extent → Bool
+narrow n which again boxes = ltb (length which) n || (ltb (length again) n || ltb (length boxes) n)
 
 -- counts over their bounds count for nothing, and neither do those of more lines than the columns have
-abbrev pub held : Counts → List ℕ → List Bool → List Float → Counts
+abbrev pub held : Counts → List ℕ → List Bool → List Extent → Counts
 held m which again boxes = cond (narrow (fair m).lines which again boxes) no_counts (fair m)
 
 -- what lines are judged by where there are so many, in this container
@@ -31,7 +32,7 @@ rule_of m c = record { kinds = m.kinds; lines = m.lines; case = c; slack = toler
 
 -- the view of lines whose records stand in bytes from a place on: a line is known where the place of its kind is one. Of mass, kinds
 -- and unplaced ids it has nothing.
-abbrev pub view_in : List ℕ → ℕ → List Bool → Rule → List ℕ → List Float → View
+abbrev pub view_in : List ℕ → ℕ → List Bool → Rule → List ℕ → List Extent → View
 view_in f start again r which boxes =
     record {
       many = record { kinds = r.kinds; lines = r.lines; unplaced = 0 };
@@ -39,7 +40,7 @@ view_in f start again r which boxes =
       known = λ i. ltb (get_or which i 0) r.kinds;
       kind = λ i. kind_in f (get_or which i 0);
       repeated = λ i. get_or again i false;
-      box = λ i. extent_at boxes i;
+      box = λ i. box_at boxes i;
       case = λ i. 0;
       container = λ b. r.case;
       mass = λ b. none;
@@ -51,7 +52,7 @@ view_in f start again r which boxes =
     }
 
 -- the same of their boxes alone, which is all that pairs are judged by
-abbrev pub boxes_in : Rule → List ℕ → List Float → View
+abbrev pub boxes_in : Rule → List ℕ → List Extent → View
 boxes_in r which boxes = view_in [] 0 [] r which boxes
 
 -- ---- kinds
@@ -72,7 +73,7 @@ pub record Ran (o : List ℕ) (at most : ℕ) (ws : List ℕ) (r : ℕ) (o' : Li
   pub few : r ≤ at + 5 * most
 
 -- the lines and their pairs by the columns: so many lines, in this container
-abbrev pub LinesRan : List ℕ → ℕ → Counts → Container → List ℕ → List Bool → List Float → List ℕ → ℕ → List ℕ → Type 0
+abbrev pub LinesRan : List ℕ → ℕ → Counts → Container → List ℕ → List Bool → List Extent → List ℕ → ℕ → List ℕ → Type 0
 LinesRan f start m c which again boxes o r o' =
     Ran o 0 (6 * m.lines + m.lines * m.lines / 2) (lines_found (view_in f start again (rule_of m c) which boxes)) r o'
 
@@ -93,13 +94,13 @@ pub record Followed (o : List ℕ) (at most : ℕ) (ws : List ℕ) (r : ℕ) (o'
 
 -- ---- the columns have a cell for each line that counts
 
-pub record Wide (n : ℕ) (which : List ℕ) (again : List Bool) (boxes : List Float) : Type 0 where
+pub record Wide (n : ℕ) (which : List ℕ) (again : List Bool) (boxes : List Extent) : Type 0 where
   pub few : n ≤ most_lines
   pub which_long : n ≤ length which
   pub again_long : n ≤ length again
-  pub boxes_long : 6 * n ≤ length boxes
+  pub boxes_long : n ≤ length boxes
 
-pub held_wide : (m : Counts) (which : List ℕ) (again : List Bool) (boxes : List Float) → Wide (held m which again boxes).lines which again boxes
+pub held_wide : (m : Counts) (which : List ℕ) (again : List Bool) (boxes : List Extent) → Wide (held m which again boxes).lines which again boxes
 held_wide m which again boxes = go (narrow (fair m).lines which again boxes) refl
   where
     go : (b : Bool) → narrow (fair m).lines which again boxes ≡ b → Wide (cond b no_counts (fair m)).lines which again boxes
@@ -114,6 +115,6 @@ held_wide m which again boxes = go (narrow (fair m).lines which again boxes) ref
         }
 
 -- where they have one for each there is, all count
-pub held_all : (m : Counts) (which : List ℕ) (again : List Bool) (boxes : List Float) → Wide (fair m).lines which again boxes
+pub held_all : (m : Counts) (which : List ℕ) (again : List Bool) (boxes : List Extent) → Wide (fair m).lines which again boxes
     → held m which again boxes ≡ fair m
 held_all m which again boxes w = rw (le-ltb _ _ w.which_long, le-ltb _ _ w.again_long, le-ltb _ _ w.boxes_long)

@@ -6,28 +6,14 @@ ghost use Rattle.check_words.specs.Wrote.{Wrote, most_words};
 ghost use Rattle.check_list.specs.Finding.{mass_words};
 ghost use Rattle.check_list.specs.Held.{lost_in, Ran};
 
+use check_words::Finding;
+
 pub(crate) fn put_mass(out: &mut [u64], at: usize, mass: f64, limit: f64, t: f64) -> usize
     requires { at < most_words }
     ensures { Wrote out.old at (mass_words mass limit t) result out.new × (result ≤ at + 5) }
 {
     let over = (0.0 < limit) & (limit + t < mass);
-    check_words::put_if(
-        out,
-        at,
-        over,
-        9,
-        floats::bits_of(mass),
-        floats::bits_of(limit),
-        0,
-        0,
-    )
-}
-
-// The cast of a word read from a column, which asks for no proof that it fits.
-fn wide(x: u32) -> u64
-    ensures { result ≡ x }
-{
-    x as u64
+    check_words::put_if(out, at, over, Finding::Overweight { mass, limit })
 }
 
 // What the first m kinds get: one that is short and not listed.
@@ -39,15 +25,14 @@ pub(crate) fn put_missing(
     listed: &[bool; domain::MOST_KINDS],
     m: usize,
 ) -> usize
-    requires { (m ≤ most_kinds) × (at + 5 * most_kinds < most_words) }
+    requires few { m ≤ most_kinds }
+    requires room { at + 5 * most_kinds < most_words }
     ensures { Ran out.old at m (all_below (lost_in ids.now short.now listed.now) m) result out.new }
 {
     let mut p = at;
-    let mut k = 0;
-    while k < m {
+    for k in 0..m {
         let lost = short[k] & !listed[k];
-        p = check_words::put_if(out, p, lost, 10, wide(ids[k]), 0, 0, 0);
-        k += 1;
+        p = check_words::put_if(out, p, lost, Finding::Missing { id: ids[k] });
     }
     p
 }

@@ -7,7 +7,7 @@ ghost use Rattle.std.specs.Prelude.{◌≡◌, ◌+◌};
 ghost use Rattle.check_list.specs.View.{fair};
 ghost use Rattle.check_list.specs.Held.{held, rule_of, kinds_in, LinesRan, Followed};
 
-use check_words::CORNERS;
+use check_pair::Extent;
 use measures::Container;
 use sheet::Counts;
 
@@ -19,6 +19,13 @@ mod pair;
 // No finding on a line or a pair begins past so many cells: five words for each that there can be.
 const LINE_WORDS: usize = 5
     * (6 * domain::MOST_LINES + domain::MOST_LINES * domain::MOST_LINES / 2);
+
+// Counts that count for nothing.
+const NO_COUNTS: Counts = Counts {
+    kinds: 0,
+    lines: 0,
+    unplaced: 0,
+};
 
 // What lines are judged by: how many kinds and lines there are, the container that they are in, and its tolerance.
 #[derive(Clone, Copy)]
@@ -34,27 +41,19 @@ fn fair(many: Counts) -> Counts
     ensures { result ≡ fair many }
 {
     if sheet::over_count(many) {
-        return Counts {
-            kinds: 0,
-            lines: 0,
-            unplaced: 0,
-        };
+        return NO_COUNTS;
     }
     many
 }
 
 // The counts that there are columns for.
-fn held(counts: Counts, which: &[usize], again: &[bool], boxes: &[f64]) -> Counts
+fn held(counts: Counts, which: &[usize], again: &[bool], boxes: &[Extent]) -> Counts
     ensures { result ≡ held counts which.now again.now boxes.now }
 {
     let many = fair(counts);
     let n = many.lines;
-    if (which.len() < n) | ((again.len() < n) | (boxes.len() < CORNERS * n)) {
-        return Counts {
-            kinds: 0,
-            lines: 0,
-            unplaced: 0,
-        };
+    if (which.len() < n) | ((again.len() < n) | (boxes.len() < n)) {
+        return NO_COUNTS;
     }
     many
 }
@@ -62,18 +61,17 @@ fn held(counts: Counts, which: &[usize], again: &[bool], boxes: &[f64]) -> Count
 fn rule_of(many: Counts, c: Container) -> Rule
     ensures { result ≡ rule_of many c }
 {
-    let size = c.size;
     Rule {
         kinds: many.kinds,
         lines: many.lines,
         case: c,
-        slack: check_pair::tolerance(size),
+        slack: check_pair::tolerance(c.size),
     }
 }
 
 // Lists the findings of the lines and then those of their pairs, from the first cell on as far as there are cells, and says how many
 // words they are. Lines start at `start` of the bytes; `which` are the places of the kinds that they name, `again` tells the repeated
-// ones, `boxes` are the corners of their boxes, a row each. Counts over their bounds, or of more lines than the columns have, count for
+// ones, `boxes` are their boxes. Counts over their bounds, or of more lines than the columns have, count for
 // nothing.
 pub fn line_findings(
     out: &mut [u64],
@@ -83,7 +81,7 @@ pub fn line_findings(
     c: Container,
     which: &[usize],
     again: &[bool],
-    boxes: &[f64],
+    boxes: &[Extent],
 ) -> usize
     ensures { LinesRan f.now start (held counts which.now again.now boxes.now) c
         which.now again.now boxes.now out.old result out.new }
@@ -112,8 +110,7 @@ pub fn kind_findings(
         return at;
     }
     let many = fair(counts);
-    let size = c.size;
-    let t = check_pair::tolerance(size);
+    let t = check_pair::tolerance(c.size);
     let q = kind::put_mass(out, at, mass, c.limit, t);
     kind::put_missing(out, q, ids, short, listed, many.kinds)
 }

@@ -9,6 +9,7 @@ ghost use Rattle.check_list.specs.Held.{view_in, Ran, Wide};
 
 use crate::Rule;
 use check_pair::Extent;
+use check_words::Finding;
 use measures::{Container, Kind};
 use sheet::Line;
 
@@ -16,10 +17,7 @@ fn inside_on(c: Container, t: f64, e: Extent, axis: usize) -> bool
     requires { axis < 3 }
     ensures { result ≡ inside_on c t e axis }
 {
-    let size = c.size;
-    let min = e.min;
-    let max = e.max;
-    (c.margin - t <= min[axis]) & (max[axis] <= size[axis] - c.margin + t)
+    (c.margin - t <= e.min[axis]) & (e.max[axis] <= c.size[axis] - c.margin + t)
 }
 
 fn inside(c: Container, t: f64, e: Extent) -> bool
@@ -41,13 +39,29 @@ fn put_name(
     requires { at + 15 ≤ most_words }
     ensures { Wrote out.old at (name_words i l known k ++ repeat_words i l again) result out.new × (result ≤ at + 15) }
 {
-    let line = i as u64;
-    let id = l.id as u64;
-    let copy = l.instance as u64;
     let far = known & !(l.instance < k.quantity);
-    let p = check_words::put_if(out, at, !known, 1, line, id, 0, 0);
-    let q = check_words::put_if(out, p, far, 2, line, id, copy, k.quantity as u64);
-    check_words::put_if(out, q, again, 3, line, id, copy, 0)
+    let p = check_words::put_if(out, at, !known, Finding::Unknown { line: i, id: l.id });
+    let q = check_words::put_if(
+        out,
+        p,
+        far,
+        Finding::OutOfRange {
+            line: i,
+            id: l.id,
+            instance: l.instance,
+            quantity: k.quantity,
+        },
+    );
+    check_words::put_if(
+        out,
+        q,
+        again,
+        Finding::Repeated {
+            line: i,
+            id: l.id,
+            instance: l.instance,
+        },
+    )
 }
 
 // 4 orientation, 5 bin, 6 outside.
@@ -65,15 +79,30 @@ fn put_place(
     requires { (at + 15 ≤ most_words) × (t ≡ tolerance_of c.size) }
     ensures { Wrote out.old at (place_words c i l known k e) result out.new × (result ≤ at + 15) }
 {
-    let line = i as u64;
-    let id = l.id as u64;
     let index = l.orientation as usize;
     let turned = known & (measures::allowed_orientations(k.rule) <= index);
     let elsewhere = known & (0 < l.bin);
     let outside = known & !inside(c, t, e);
-    let p = check_words::put_if(out, at, turned, 4, line, id, l.orientation as u64, 0);
-    let q = check_words::put_if(out, p, elsewhere, 5, line, l.bin as u64, 0, 0);
-    check_words::put_if(out, q, outside, 6, line, id, 0, 0)
+    let p = check_words::put_if(
+        out,
+        at,
+        turned,
+        Finding::Turned {
+            line: i,
+            id: l.id,
+            orientation: l.orientation,
+        },
+    );
+    let q = check_words::put_if(
+        out,
+        p,
+        elsewhere,
+        Finding::Elsewhere {
+            line: i,
+            bin: l.bin,
+        },
+    );
+    check_words::put_if(out, q, outside, Finding::Outside { line: i, id: l.id })
 }
 
 // What the lines get, one after the other.
@@ -83,7 +112,7 @@ pub(crate) fn put_lines(
     start: usize,
     which: &[usize],
     again: &[bool],
-    boxes: &[f64],
+    boxes: &[Extent],
     rule: Rule,
 ) -> usize
     requires { Wide rule.lines which.now again.now boxes.now × (rule.slack ≡ tolerance_of rule.case.size) }
@@ -95,15 +124,12 @@ pub(crate) fn put_lines(
     let n = rule.lines;
     let c = rule.case;
     let mut p = 0;
-    let mut i = 0;
-    while i < n {
+    for i in 0..n {
         let l = file_read::records::line_in(f, start, i);
         let w = which[i];
         let k = file_read::records::kind_in(f, w);
-        let e = crate::pair::box_at(boxes, i);
         let q = put_name(out, p, i, l, w < m, k, again[i]);
-        p = put_place(out, q, i, l, w < m, k, e, c, rule.slack);
-        i += 1;
+        p = put_place(out, q, i, l, w < m, k, boxes[i], c, rule.slack);
     }
     p
 }

@@ -7,7 +7,7 @@ ghost use Rattle.check_pair.specs.Pair.{gaps, verdict_of};
 ghost use Rattle.check_pair.specs.Close.{close_of, Fair};
 ghost use Rattle.check_pair.specs.Shortcut.{some_gap, limit_of};
 ghost use Rattle.check_pair.specs.Tolerance.{tolerance_of};
-ghost use Rattle.check_words.specs.Corners.{extent_at};
+ghost use Rattle.check_words.specs.Boxes.{box_at};
 ghost use Rattle.check_words.specs.Words.{only_if};
 ghost use Rattle.check_words.specs.Wrote.{Wrote, most_words};
 ghost use Rattle.check_list.specs.Finding.{verdict_words};
@@ -17,8 +17,8 @@ ghost use Rattle.check_list.specs.Blocks.{block, Tells, Settles};
 
 use crate::block::BLOCK;
 use crate::{Rule, block};
-use check_pair::{Extent, Verdict};
-use check_words::CORNERS;
+use check_pair::{Clearance, Extent, Verdict};
+use check_words::Finding;
 
 // What settles a pair without its root: from the gap `limit` on it is far, and from `reach` on between a box and a block's span each of the
 // block is; sums of squares up to `close` are too close.
@@ -29,15 +29,21 @@ struct Quick {
     close: f64,
 }
 
-// The box of row i.
-pub(crate) fn box_at(boxes: &[f64], i: usize) -> Extent
-    requires { 6 * i + 6 ≤ length boxes.now }
-    ensures { result ≡ extent_at boxes.now i }
+// A box that takes no room.
+const NOWHERE: Extent = Extent {
+    min: [0.0, 0.0, 0.0],
+    max: [0.0, 0.0, 0.0],
+};
+
+// What pairs of lines are judged by.
+fn clearance_of(rule: Rule) -> Clearance
+    ensures asked { result.asked ≡ rule.case.spacing }
+    ensures slack { result.slack ≡ rule.slack }
 {
-    let k = CORNERS * i;
-    let min = [boxes[k], boxes[k + 1], boxes[k + 2]];
-    let max = [boxes[k + 3], boxes[k + 4], boxes[k + 5]];
-    Extent { min, max }
+    Clearance {
+        asked: rule.case.spacing,
+        slack: rule.slack,
+    }
 }
 
 // The finding that a verdict gives, where both lines are known.
@@ -45,26 +51,27 @@ fn put_verdict(
     out: &mut [u64],
     at: usize,
     known: bool,
-    i: usize,
-    j: usize,
+    first: usize,
+    second: usize,
     asked: f64,
     v: Verdict,
 ) -> usize
     requires { at < most_words }
-    ensures { Wrote out.old at (only_if known (verdict_words i j asked v)) result out.new × (result ≤ at + 5) }
+    ensures { Wrote out.old at (only_if known (verdict_words first second asked v)) result out.new × (result ≤ at + 5) }
 {
     match v {
         Verdict::Apart => at,
-        Verdict::Overlap => check_words::put_if(out, at, known, 7, i as u64, j as u64, 0, 0),
-        Verdict::TooClose(d) => check_words::put_if(
+        Verdict::Overlap => check_words::put_if(out, at, known, Finding::Overlap { first, second }),
+        Verdict::TooClose(distance) => check_words::put_if(
             out,
             at,
             known,
-            8,
-            i as u64,
-            j as u64,
-            floats::bits_of(d),
-            floats::bits_of(asked),
+            Finding::TooClose {
+                first,
+                second,
+                distance,
+                asked,
+            },
         ),
     }
 }
@@ -80,8 +87,8 @@ fn counted(at: usize, on: bool) -> usize
     at
 }
 
-// What two lines get, whose boxes are a and b, and q a hint for their distance. Past the last cell nothing is stored, and only whether
-// there is a finding counts.
+// What two lines get, whose boxes are a and b, and whose hint is that of place k. Past the last cell nothing is stored, and only whether
+// there is a finding counts, which takes no hint.
 fn put_pair(
     out: &mut [u64],
     at: usize,
@@ -90,19 +97,21 @@ fn put_pair(
     j: usize,
     a: Extent,
     b: Extent,
-    asked: f64,
-    t: f64,
+    clearance: Clearance,
     close: f64,
-    q: u64,
+    hints: Option<&[u64; BLOCK]>,
+    k: usize,
 ) -> usize
-    requires { (at < most_words) × Fair close asked t }
-    ensures { Wrote out.old at (only_if known (verdict_words i j asked (verdict_of a b asked t))) result out.new × (result ≤ at + 5) }
+    requires within { at < most_words }
+    requires fair { Fair close clearance.asked clearance.slack }
+    ensures { Wrote out.old at (only_if known (verdict_words i j clearance.asked (verdict_of a b clearance.asked clearance.slack)))
+        result out.new × (result ≤ at + 5) }
 {
     if out.len() <= at {
-        return counted(at, known & check_pair::is_found(a, b, asked, t, close));
+        return counted(at, known & clearance.is_found(a, b, close));
     }
-    let v = check_pair::judge(a, b, asked, t, q);
-    put_verdict(out, at, known, i, j, asked, v)
+    let v = clearance.judge(a, b, hints.map(|h| h[k % BLOCK]));
+    put_verdict(out, at, known, i, j, clearance.asked, v)
 }
 
 // From this gap on between a box and a block's span each box of the block is far; where the spans are no good, none is told to be.
@@ -116,47 +125,54 @@ fn reach_of(spanned: bool, limit: f64) -> f64
 }
 
 // The sums of squares that are too close without a root, for a run that has no cell for a finding and only counts; none for one that writes.
-fn close_of(counts: bool, asked: f64, t: f64) -> f64
-    ensures { result ≡ cond counts (close_of asked t) none }
+fn close_of(counts: bool, clearance: Clearance) -> f64
+    ensures { result ≡ cond counts (close_of clearance.asked clearance.slack) none }
 {
     if counts {
-        return check_pair::close(asked, t);
+        return clearance.close();
     }
     0.0
 }
 
-// What settles pairs that are to be `asked` apart.
-fn quick_of(asked: f64, t: f64, spanned: bool, counts: bool) -> Quick
-    ensures { Settles asked t spanned result }
+// What settles pairs that are to be so far apart.
+fn quick_of(clearance: Clearance, spanned: bool, counts: bool) -> Quick
+    ensures { Settles clearance.asked clearance.slack spanned result }
 {
-    let limit = check_pair::limit(asked, t);
+    let limit = clearance.limit();
     Quick {
         limit,
         reach: reach_of(spanned, limit),
-        close: close_of(counts, asked, t),
+        close: close_of(counts, clearance),
     }
 }
 
 // The end of the lines from `from` up to `to`, of one block, that are to be judged one by one: `from` where each is far from the box e,
 // which the block's span may tell, and `to` where the first is near. No branch in the loop, so that a few are tested at a time.
-fn near_end(e: Extent, boxes: &[f64], spans: &[f64], from: usize, to: usize, quick: Quick) -> usize
-    requires { (from < to) × ((6 * to ≤ length boxes.now) × ((6 * (from / block) + 6 ≤ length spans.now)
-        × ((j : ℕ) → from ≤ j → j < to → some_gap quick.reach (gaps e (extent_at spans.now (from / block))) ≡ true
-        → some_gap quick.limit (gaps e (extent_at boxes.now j)) ≡ true))) }
-    ensures { (from ≤ result) × ((result ≤ to)
-        × ((j : ℕ) → result ≤ j → j < to → some_gap quick.limit (gaps e (extent_at boxes.now j)) ≡ true)) }
+fn near_end(
+    e: Extent,
+    boxes: &[Extent],
+    span: Extent,
+    from: usize,
+    to: usize,
+    quick: Quick,
+) -> usize
+    requires some { from < to }
+    requires long { to ≤ length boxes.now }
+    requires tells { some_gap quick.reach (gaps e span) ≡ true
+        → (j : ℕ) → from ≤ j → j < to → some_gap quick.limit (gaps e (box_at boxes.now j)) ≡ true }
+    ensures after { from ≤ result }
+    ensures within { result ≤ to }
+    ensures far { (j : ℕ) → result ≤ j → j < to → some_gap quick.limit (gaps e (box_at boxes.now j)) ≡ true }
 {
-    if check_pair::is_far(e, box_at(spans, from / BLOCK), quick.reach) {
+    if e.is_far(span, quick.reach) {
         return from;
     }
-    if !check_pair::is_far(e, box_at(boxes, from), quick.limit) {
+    if !e.is_far(boxes[from], quick.limit) {
         return to;
     }
     let mut near = false;
-    let mut j = from + 1;
-    while j < to {
-        near = near | !check_pair::is_far(e, box_at(boxes, j), quick.limit);
-        j += 1;
+    for b in &boxes[from + 1..to] {
+        near = near | !e.is_far(*b, quick.limit);
     }
     if near {
         return to;
@@ -164,32 +180,19 @@ fn near_end(e: Extent, boxes: &[f64], spans: &[f64], from: usize, to: usize, qui
     from
 }
 
-// Hints for the distances of the box e from those of the lines from `from` up to `to`, of one block; none where they are not wanted, or
-// the last of these lines is far, as then few of them take a root. All are made before the first is used, as a root that waits for
-// its own hint holds up the next.
-fn hints_of(
-    wanted: bool,
-    e: Extent,
-    boxes: &[f64],
-    from: usize,
-    to: usize,
-    limit: f64,
-) -> [u64; BLOCK]
-    requires { (from < to) × (6 * to ≤ length boxes.now) }
+// Hints for the distances of the box e from the boxes of a block's lines; none where they are not wanted, or the last of these lines is
+// far, as then few of them take a root. All are made before the first is used, as a root that waits for its own hint holds up the next.
+fn hints_of(wanted: bool, e: Extent, boxes: &[Extent], limit: f64) -> Option<[u64; BLOCK]>
+    requires { 0 < length boxes.now }
 {
+    if !wanted | e.is_far(boxes[boxes.len() - 1], limit) {
+        return None;
+    }
     let mut hints = [0; BLOCK];
-    if !wanted {
-        return hints;
+    for (k, b) in boxes.iter().enumerate() {
+        hints[k % BLOCK] = e.hint(*b);
     }
-    if check_pair::is_far(e, box_at(boxes, to - 1), limit) {
-        return hints;
-    }
-    let mut j = from;
-    while j < to {
-        hints[(j - from) % BLOCK] = check_pair::hint(e, box_at(boxes, j));
-        j += 1;
-    }
-    hints
+    Some(hints)
 }
 
 // What line i gets with the lines from `from` up to `to`, one by one.
@@ -197,45 +200,46 @@ fn put_each(
     out: &mut [u64],
     at: usize,
     which: &[usize],
-    boxes: &[f64],
+    boxes: &[Extent],
     rule: Rule,
     quick: Quick,
     i: usize,
     from: usize,
     to: usize,
 ) -> usize
-    requires { (i < from) × ((from ≤ to) × ((to ≤ rule.lines) × ((rule.lines ≤ length which.now) × ((6 * rule.lines ≤ length boxes.now)
-        × ((at + 5 * (to - from) < most_words) × ((rule.slack ≡ tolerance_of rule.case.size)
-        × Fair quick.close rule.case.spacing rule.slack)))))) }
+    requires later { i < from }
+    requires within { (from ≤ to) × (to ≤ rule.lines) }
+    requires which_long { rule.lines ≤ length which.now }
+    requires boxes_long { rule.lines ≤ length boxes.now }
+    requires room { at + 5 * (to - from) < most_words }
+    requires slack { rule.slack ≡ tolerance_of rule.case.size }
+    requires fair { Fair quick.close rule.case.spacing rule.slack }
     ensures { Went out.old at (pair_found (boxes_in rule which.now boxes.now) i) from to result out.new }
 {
     if to <= from {
         return at;
     }
     let m = rule.kinds;
-    let c = rule.case;
-    let asked = c.spacing;
-    let e = box_at(boxes, i);
+    let clearance = clearance_of(rule);
+    let e = boxes[i];
     let known = which[i] < m;
-    let hints = hints_of(at < out.len(), e, boxes, from, to, quick.limit);
+    let hints = hints_of(at < out.len(), e, &boxes[from..to], quick.limit);
     let mut p = at;
-    let mut j = from;
-    while j < to {
-        let b = box_at(boxes, j);
+    for j in from..to {
+        let both = known & (which[j] < m);
         p = put_pair(
             out,
             p,
-            known & (which[j] < m),
+            both,
             i,
             j,
             e,
-            b,
-            asked,
-            rule.slack,
+            boxes[j],
+            clearance,
             quick.close,
-            hints[(j - from) % BLOCK],
+            hints.as_ref(),
+            j - from,
         );
-        j += 1;
     }
     p
 }
@@ -245,24 +249,27 @@ fn put_from(
     out: &mut [u64],
     at: usize,
     which: &[usize],
-    boxes: &[f64],
-    spans: &[f64],
+    boxes: &[Extent],
+    spans: &[Extent],
     rule: Rule,
     quick: Quick,
     i: usize,
 ) -> usize
-    requires { (i < rule.lines) × ((at + 5 * (rule.lines - (i + 1)) < most_words)
-        × (Tells rule which.now boxes.now spans.now quick × (rule.slack ≡ tolerance_of rule.case.size))) }
+    requires one { i < rule.lines }
+    requires room { at + 5 * (rule.lines - (i + 1)) < most_words }
+    requires told { Tells rule which.now boxes.now spans.now quick }
+    requires slack { rule.slack ≡ tolerance_of rule.case.size }
     ensures { Ran out.old at (rule.lines - (i + 1))
         (pairs_found (boxes_in rule which.now boxes.now) i) result out.new }
 {
     let n = rule.lines;
-    let e = box_at(boxes, i);
+    let e = boxes[i];
     let mut p = at;
     let mut j = i + 1;
+    // Stays: it goes by blocks, the first of them a part of one; a for over blocks is no plainer, as it works out both ends again.
     while j < n {
         let to = block::block_end(j, n);
-        let end = near_end(e, boxes, spans, j, to, quick);
+        let end = near_end(e, boxes, spans[j / BLOCK], j, to, quick);
         p = put_each(out, p, which, boxes, rule, quick, i, j, end);
         j = to;
     }
@@ -274,24 +281,24 @@ pub(crate) fn put_pairs(
     out: &mut [u64],
     at: usize,
     which: &[usize],
-    boxes: &[f64],
+    boxes: &[Extent],
     rule: Rule,
 ) -> usize
-    requires { (rule.lines ≤ most_lines) × ((rule.lines ≤ length which.now) × ((6 * rule.lines ≤ length boxes.now)
-        × ((at ≤ 30 * most_lines) × (rule.slack ≡ tolerance_of rule.case.size)))) }
+    requires few { rule.lines ≤ most_lines }
+    requires which_long { rule.lines ≤ length which.now }
+    requires boxes_long { rule.lines ≤ length boxes.now }
+    requires room { at ≤ 30 * most_lines }
+    requires slack { rule.slack ≡ tolerance_of rule.case.size }
     ensures { Ran out.old at (rule.lines * rule.lines / 2)
         (all_below (pairs_found (boxes_in rule which.now boxes.now)) rule.lines) result out.new }
 {
     let n = rule.lines;
-    let c = rule.case;
-    let mut spans = [0.0; block::SPANS];
+    let mut spans = [NOWHERE; block::BLOCKS];
     let spanned = block::put_spans(boxes, n, &mut spans);
-    let quick = quick_of(c.spacing, rule.slack, spanned, out.len() < 5);
+    let quick = quick_of(clearance_of(rule), spanned, out.len() < 5);
     let mut p = at;
-    let mut i = 0;
-    while i < n {
+    for i in 0..n {
         p = put_from(out, p, which, boxes, &spans, rule, quick, i);
-        i += 1;
     }
     p
 }

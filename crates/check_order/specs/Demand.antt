@@ -8,7 +8,7 @@ use Rattle.floats.specs.Whole.{Whole}
 use Rattle.sheet.specs.declared.Line.{Line}
 use Rattle.sheet.specs.declared.Sheet.{Sheet}
 use Rattle.sheet.specs.Sheets.{kind_at, line_at, unplaced_at, sheet_refusal}
-use Rattle.check_packing.specs.Check.{checked_of, cells_of}
+use Rattle.check_packing.specs.Check.{count_of, cells_of}
 use Rattle.check_words.specs.Words.{only_if}
 
 -- ---- "two accepted sheets that differ only in the order of their placement lines"
@@ -141,4 +141,4 @@ Each q (c ∷ a ∷ b ∷ d ∷ e ∷ ws) = q (finding c a b d e) × Each q ws
 
 -- ---- what a call of `check_packing` writes into the lent cells `o`: as many findings as it answers, five words each
 abbrev pub written : Sheet → List ℕ → List ℕ
-written s o = take (5 * (checked_of s o).count) (cells_of s o)
+written s o = take (5 * count_of s) (cells_of s o)

@@ -7,7 +7,7 @@ use Rattle.domain.specs.Refusals.{when, or_else}
 use Rattle.domain.specs.Laws.{or_else_first}
 use Rattle.sheet.specs.declared.Sheet.{Sheet}
 use Rattle.sheet.specs.Sheets.{sheet_refusal}
-use Rattle.check_packing.specs.Check.{check_refusal, count_of, checked_of, cells_of}
+use Rattle.check_packing.specs.Check.{check_refusal, count_of, cells_of}
 use Rattle.check_order.specs.Demand.{written, Compared}
 use Rattle.check_order.specs.Demand.{Each}
 use Rattle.check_order.specs.Parts.{Any, each_line, each_from, each_mass, each_missing, each_listed, each_finding, findings_whole}
@@ -44,14 +44,14 @@ words_counted s =
     ap (λ (l : ℕ). 5 * (l / 5)) r.1 ∙ ap (λ (n : ℕ). 5 * n) (mul-div_cancel r.0 (zero-lt-suc 4)) ∙ mul_comm 5 r.0 ∙ sym r.1
 
 -- an accepted sheet, with room lent for all findings, is not refused
-pub not_refused : (s : Sheet) (o : List ℕ) → sheet_refusal s ≡ 0 → length (findings s) ≤ length o → (checked_of s o).refused ≡ 0
-unfolding checked_of check_refusal or_else
+pub not_refused : (s : Sheet) (o : List ℕ) → sheet_refusal s ≡ 0 → length (findings s) ≤ length o → check_refusal s o ≡ 0
+unfolding check_refusal or_else
 not_refused s o h l = ap (λ (v : ℕ). or_else v (when (ltb (length o) (length (findings s))) 6)) h ∙ ap (λ (v : Bool). when v 6)
     (le-ltb (length o) (length (findings s)) l)
 
 -- and where it is not refused, what it writes are the findings
-pub written_findings : (s : Sheet) (o : List ℕ) → (checked_of s o).refused ≡ 0 → written s o ≡ findings s
-unfolding checked_of check_refusal count_of cells_of
+pub written_findings : (s : Sheet) (o : List ℕ) → check_refusal s o ≡ 0 → written s o ≡ findings s
+unfolding check_refusal count_of cells_of
 written_findings s o h =
     ap (λ (v : Bool). take (5 * cond v (length (findings s) / 5) 0) (cells_of s o))
     (eq-eqb (sheet_refusal s) 0 (or_else_first (sheet_refusal s) (when (ltb (length o) (length (findings s))) 6) h))

@@ -21,7 +21,8 @@ use Rattle.file_read.specs.Records.{kind_in, many_is, line_is}
 use Rattle.file_accept.specs.declared as taking
 use Rattle.file_accept.specs.Accept.{Taken}
 use Rattle.check_list.specs.View.{no_counts, fair, lost_found, mass_found, lines_found, rest_found}
-use Rattle.check_words.specs.Corners.{extent_at, boxed_by, boxes_filled, filled_long, row_at}
+use Rattle.check_pair.specs.declared.Extent.{Extent}
+use Rattle.check_words.specs.Boxes.{box_at}
 use Rattle.check_list.specs.Held.{rule_of, view_in, lost_in, kinds_in, held, held_all, Wide, Ran, LinesRan}
 use Rattle.check_list.specs.Alike.{lines_same}
 use Rattle.check_packing.specs.Lines.{kind_of, known, kind_for, repeats, box_of, packed, short, mass_below, mass}
@@ -57,8 +58,8 @@ module _ (f : List ℕ) (a : taking.Accepted.Accepted) (t : Taken f a) where
       kind_read f a t (kind_of s (line_at s i).id) (rw (kinds_are f a t) (ltb-true (kind_of s (line_at s i).id) s.many.kinds k))
 
   -- columns that hold what is read of the lines
-  module _ (which : List ℕ) (again : List Bool) (boxes : List Float) (named : (i : ℕ) → i < a.lines → get_or which i 0 ≡ kind_named s i)
-      (marked : (i : ℕ) → i < a.lines → get_or again i false ≡ repeats s i) (boxed : (i : ℕ) → i < a.lines → extent_at boxes i ≡ boxed_by (box_read f i)) where
+  module _ (which : List ℕ) (again : List Bool) (boxes : List Extent) (named : (i : ℕ) → i < a.lines → get_or which i 0 ≡ kind_named s i)
+      (marked : (i : ℕ) → i < a.lines → get_or again i false ≡ repeats s i) (boxed : (i : ℕ) → i < a.lines → box_at boxes i ≡ box_read f i) where
     within : (i : ℕ) → i < s.many.lines → i < a.lines
     within i l = rw (lines_are f a t) l
 
@@ -84,29 +85,25 @@ module _ (f : List ℕ) (a : taking.Accepted.Accepted) (t : Taken f a) where
       → (i : ℕ) → i < a.lines → get_or new i d ≡ g i
   cells_read old g d e long i l = rw e (filled_at old g a.lines i d long l)
 
-  pub rows_read : (old : List Float) {new : List Float} → new ≡ boxes_filled old (box_read f) a.lines → 6 * a.lines ≤ length old
-      → (i : ℕ) → i < a.lines → extent_at new i ≡ boxed_by (box_read f i)
-  rows_read old e long i l = ap (λ (v : List Float). extent_at v i) e ∙ row_at old (box_read f) a.lines i long l
-
-  pub wide_still : {which which' : List ℕ} {again again' : List Bool} {boxes boxes' : List Float} → Wide a.lines which again boxes
-      → which' ≡ filled which (kind_named s) a.lines → again' ≡ filled again (repeats s) a.lines → boxes' ≡ boxes_filled boxes (box_read f) a.lines
+  pub wide_still : {which which' : List ℕ} {again again' : List Bool} {boxes boxes' : List Extent} → Wide a.lines which again boxes
+      → which' ≡ filled which (kind_named s) a.lines → again' ≡ filled again (repeats s) a.lines → boxes' ≡ filled boxes (box_read f) a.lines
       → Wide a.lines which' again' boxes'
   wide_still {which} {which'} {again} {again'} {boxes} {boxes'} w e g h =
       record {
         few = w.few;
         which_long = rw (e, filled_length which (kind_named s) a.lines) w.which_long;
         again_long = rw (g, filled_length again (repeats s) a.lines) w.again_long;
-        boxes_long = rw (h, filled_long boxes (box_read f) a.lines) w.boxes_long;
+        boxes_long = rw (h, filled_length boxes (box_read f) a.lines) w.boxes_long;
       }
 
   -- so many lines as there are count, where the columns have a cell for each
-  pub all_held : (which : List ℕ) (again : List Bool) (boxes : List Float) → Wide a.lines which again boxes → held (counts_of a) which again boxes ≡ s.many
+  pub all_held : (which : List ℕ) (again : List Bool) (boxes : List Extent) → Wide a.lines which again boxes → held (counts_of a) which again boxes ≡ s.many
   all_held which again boxes w =
       held_all (counts_of a) which again boxes (rw (fair_is, ← (lines_are f a t)) w) ∙ fair_is
 
   -- the findings of the lines, by columns that were filled
-  pub lines_ran : {which which' : List ℕ} {again again' : List Bool} {boxes boxes' : List Float} → Wide a.lines which again boxes
-      → which' ≡ filled which (kind_named s) a.lines → again' ≡ filled again (repeats s) a.lines → boxes' ≡ boxes_filled boxes (box_read f) a.lines
+  pub lines_ran : {which which' : List ℕ} {again again' : List Bool} {boxes boxes' : List Extent} → Wide a.lines which again boxes
+      → which' ≡ filled which (kind_named s) a.lines → again' ≡ filled again (repeats s) a.lines → boxes' ≡ filled boxes (box_read f) a.lines
       → (c : Container) → s.container ≡ c → (m : Counts) → m ≡ counts_of a → {o o' : List ℕ} {r : ℕ}
       → LinesRan f a.start (held m which' again' boxes') c which' again' boxes' o r o'
       → Ran o 0 (6 * s.many.lines + s.many.lines * s.many.lines / 2) (lines_found (view_of s)) r o'
@@ -114,7 +111,7 @@ module _ (f : List ℕ) (a : taking.Accepted.Accepted) (t : Taken f a) where
       let k : held m which' again' boxes' ≡ s.many = ap (λ (n : Counts). held n which' again' boxes') em ∙ all_held which' again' boxes' (wide_still w e g h) in
       let found =
       lines_held which' again' boxes' (cells_read which (kind_named s) 0 e w.which_long) (cells_read again (repeats s) false g w.again_long)
-      (rows_read boxes h w.boxes_long) c ec in
+      (cells_read boxes (box_read f) _ h w.boxes_long) c ec in
       subst (λ (ws : List ℕ). Ran o 0 (6 * s.many.lines + s.many.lines * s.many.lines / 2) ws r o') found
       (subst (λ (n : Counts). LinesRan f a.start n c which' again' boxes' o r o') k ran)
 

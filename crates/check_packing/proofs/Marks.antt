@@ -12,6 +12,7 @@ use borrow.Author.Tests.{ltb-true, lt-ltb, eqb-true, eqb-false, eq-eqb}
 use lib.Dec.{eqb, ltb}
 use lib.ListN.{length, get_or, set, replicate, length-set, length-replicate, get_or-replicate}
 use lib.Seq.{get_or-set_same, get_or-set_other, set_out}
+use mir.Val.{bool_byte}
 use Rattle.domain.specs.Bounds.{most_kinds, most_boxes, place_within}
 use Rattle.domain.specs.Refusals.{when}
 use Rattle.lists.specs.Below.{any_below, sum_below, any_same}
@@ -52,6 +53,15 @@ slot_in n first copy counts h = go (counts && ltb (first + copy) n) refl
     go : (b : Bool) → (counts && ltb (first + copy) n) ≡ b → cond b (first + copy) 0 < n
     go true e = ltb-true (first + copy) n (and_right counts _ e)
     go false e = h
+
+-- 1 where a line counts
+pub one_when : (on : Bool) → bool_byte on ≡ when on 1
+one_when true = refl
+one_when false = refl
+
+pub one_few : (on : Bool) (n : ℕ) → n ≡ bool_byte on → n ≤ 1
+one_few true n e = omega arith
+one_few false n e = omega arith
 
 -- ---- which boxes are marked
 

@@ -1,13 +1,10 @@
 -- The distinct copies in range that are placed, as the unplaced list counts them, are the lines in range that are the first of their copy.
 use mathlib.Core.Path.{◌≡◌, refl, sym, ap, ◌∙◌}
 use mathlib.Core.Bool.{Bool, true, false, not, ◌&&◌}
-use mathlib.Core.List.{List}
-use Prim.Native.Nat.{ℕ, zero, suc, ◌+◌, ◌<◌, ◌≤◌}
+use Prim.Native.Nat.{ℕ, zero, suc, ◌+◌, ◌<◌}
 use native.Mathlib.Omega.{arith}
 use borrow.Author.Tests.{ltb-true, lt-ltb, eqb-true, eq-eqb}
 use lib.Dec.{eqb, ltb}
-use lib.ListN.{get_or}
-use Rattle.domain.specs.Bounds.{most_lines}
 use Rattle.lists.specs.Below.{sum_below}
 use Rattle.domain.specs.Refusals.{when}
 use Rattle.lists.specs.Bools.{and_left, and_right, same_bool}
@@ -16,7 +13,7 @@ use Rattle.sheet.specs.declared.Line.{Line}
 use Rattle.sheet.specs.Sheets.{kind_at, line_at}
 use Rattle.sheet.specs.Accepted.{Accepted}
 use Rattle.lists.specs.Below.{any_same}
-use Rattle.plan_unplaced.specs.Short.{places, is_placed, distinct_placed, Named, names_of, named}
+use Rattle.plan_unplaced.specs.Short.{places, is_placed, distinct_placed}
 use Rattle.plan_unplaced.specs.Distinct.{distinct_none, distinct_hit, distinct_miss}
 use Rattle.check_packing.specs.Lines.{kind_of, is_known, known, kind_for, same_as, again, counted, packs, packed}
 use Rattle.check_packing.proofs.ById.{kind_hit, own_kind}
@@ -63,22 +60,10 @@ module _ (s : Sheet) (a : Accepted s) (k : ℕ) (l : k < s.many.kinds) where
           let e : kind_of s line.id ≡ k = ap (kind_of s) i ∙ own_kind s a k l in
           rw (e, lt-ltb k s.many.kinds l, and_right (eqb line.id id) _ h, eq-eqb k k refl)
 
-  abbrev ids : List ℕ
-  ids = (names_of s.lines most_lines).ids
-
-  abbrev instances : List ℕ
-  instances = (names_of s.lines most_lines).instances
-
   -- an earlier line names line n's copy exactly where that copy is placed
-  again_placed : (n : ℕ) → n < most_lines → (line_at s n).id ≡ id → is_placed ids instances n id (get_or instances n 0) ≡ again s.lines n
+  again_placed : (n : ℕ) → (line_at s n).id ≡ id → is_placed s.lines n id (line_at s n).instance ≡ again s.lines n
   unfolding is_placed again places same_as
-  again_placed n z e = any_same (places ids instances id (get_or instances n 0)) (same_as s.lines n) n (λ j y. at j (omega arith))
-    where
-      at : (j : ℕ) → j < most_lines → places ids instances id (get_or instances n 0) j ≡ same_as s.lines n j
-      at j y =
-          let u = named s.lines most_lines j (omega arith) y in
-          let v = named s.lines most_lines n (omega arith) z in
-          rw (u.id_is, u.instance_is, v.instance_is, e)
+  again_placed n e = any_same (places s.lines id (line_at s n).instance) (same_as s.lines n) n (λ j y. rw e)
 
   -- line n packs a copy of kind k where it is of that kind, in range, and the first of its copy
   packs_is : (n : ℕ) → packs s k n ≡ when ((eqb (line_at s n).id id && ltb (line_at s n).instance q) && not (again s.lines n)) 1
@@ -88,25 +73,25 @@ module _ (s : Sheet) (a : Accepted s) (k : ℕ) (l : k < s.many.kinds) where
       (and_moved (counted s (line_at s n)) (not (again s.lines n)) (eqb (kind_of s (line_at s n).id) k) ∙ ap (λ (b : Bool). b && not (again s.lines n))
       (of_kind (line_at s n)))
 
-  step : (n : ℕ) → n < most_lines → distinct_placed ids instances (suc n) id q ≡ distinct_placed ids instances n id q + packs s k n
-  step n z = rw (packs_is n) (go (eqb (line_at s n).id id && ltb (line_at s n).instance q) refl (named s.lines most_lines n (omega arith) z))
+  step : (n : ℕ) → distinct_placed s.lines (suc n) id q ≡ distinct_placed s.lines n id q + packs s k n
+  step n = rw (packs_is n) (go (eqb (line_at s n).id id && ltb (line_at s n).instance q) refl)
     where
-      go : (b : Bool) → (eqb (line_at s n).id id && ltb (line_at s n).instance q) ≡ b → Named s.lines most_lines n
-          → distinct_placed ids instances (suc n) id q
-          ≡ distinct_placed ids instances n id q + when ((eqb (line_at s n).id id && ltb (line_at s n).instance q) && not (again s.lines n)) 1
-      go false h u = rw h (let e = distinct_miss ids instances n id q (rw (u.id_is, u.instance_is) h) in omega arith)
-      go true h u =
+      go : (b : Bool) → (eqb (line_at s n).id id && ltb (line_at s n).instance q) ≡ b
+          → distinct_placed s.lines (suc n) id q
+          ≡ distinct_placed s.lines n id q + when ((eqb (line_at s n).id id && ltb (line_at s n).instance q) && not (again s.lines n)) 1
+      go false h = rw h (let e = distinct_miss s.lines n id q h in omega arith)
+      go true h =
           let i = and_left (eqb (line_at s n).id id) _ h in
-          let r : get_or instances n 0 < q = rw u.instance_is (ltb-true (line_at s n).instance q (and_right (eqb (line_at s n).id id) _ h)) in
-          let e = distinct_hit ids instances n id q (rw u.id_is i) r in
-          rw h (adds _ _ (again s.lines n) (rw (again_placed n z (eqb-true (line_at s n).id id i)) at e))
+          let r : (line_at s n).instance < q = ltb-true (line_at s n).instance q (and_right (eqb (line_at s n).id id) _ h) in
+          let e = distinct_hit s.lines n id q i r in
+          rw h (adds _ _ (again s.lines n) (rw (again_placed n (eqb-true (line_at s n).id id i)) at e))
 
-  pub packed_below : (n : ℕ) → n ≤ most_lines → sum_below (packs s k) n ≡ distinct_placed ids instances n id q
+  pub packed_below : (n : ℕ) → sum_below (packs s k) n ≡ distinct_placed s.lines n id q
   unfolding sum_below
-  packed_below zero z = sym (distinct_none ids instances id q)
-  packed_below (suc n) z = rw (packed_below n (omega arith)) (sym (step n z))
+  packed_below zero = sym (distinct_none s.lines id q)
+  packed_below (suc n) = rw (packed_below n) (sym (step n))
 
   -- so a kind is short where fewer distinct instances in range are placed than it has
-  pub packed_distinct : packed s k ≡ distinct_placed ids instances s.many.lines id q
+  pub packed_distinct : packed s k ≡ distinct_placed s.lines s.many.lines id q
   unfolding packed
-  packed_distinct = packed_below s.many.lines a.few_of.lines
+  packed_distinct = packed_below s.many.lines

@@ -1,15 +1,14 @@
 // What is read off an accepted load file once, before its findings are listed: columns by kind and by line.
 ghost use Rattle.std.specs.Prelude.{◌≡◌, ℕ, ◌*◌, ◌≤◌, ◌<◌, length, replicate};
 ghost use Rattle.domain.specs.Bounds.{most_kinds};
-ghost use Rattle.domain.specs.Refusals.{when};
 ghost use Rattle.lists.specs.Table.{filled};
 ghost use Rattle.file_read.specs.Reading.{sheet_of};
 ghost use Rattle.file_accept.specs.Accept.{Taken};
 ghost use Rattle.check_packing.specs.Lines.{mass_of, mass_with, mass_below, repeats};
-ghost use Rattle.check_words.specs.Corners.{boxes_filled};
 ghost use Rattle.check_packing.specs.Columns.{kind_id, kind_many, kind_first, place_below, Ids, Many, Packed, kind_named, box_read};
 ghost use Rattle.check_packing.specs.Columns.{short_in, slot_of, MarksRead, Unmarked};
 
+use check_pair::Extent;
 use file_accept::Accepted;
 use file_read::records;
 use measures::Kind;
@@ -28,13 +27,11 @@ pub(crate) fn kind_columns(
 {
     let m = a.kinds;
     let mut all = 0;
-    let mut k = 0;
-    while k < m {
+    for k in 0..m {
         let kind = records::kind_in(f, k);
         ids[k] = kind.id;
         many[k] = kind.quantity;
         all += kind.quantity;
-        k += 1;
     }
     all
 }
@@ -51,27 +48,24 @@ pub(crate) fn first_column(
 {
     let m = a.kinds;
     let mut sum = 0;
-    let mut k = 0;
-    while k < m {
+    for k in 0..m {
         firsts[k] = sum;
         sum += many[k];
-        k += 1;
     }
 }
 
 // The first of m ids that is this one, or m.
+// Stays: m for none, as an Option is no plainer: it is put into a column of places, and read where a place past the kinds says nothing.
 pub(crate) fn place_of(ids: &[u32; domain::MOST_KINDS], m: usize, id: u32) -> usize
     requires { m ≤ most_kinds }
     ensures { result ≡ place_below ids.now id m }
 {
-    let mut k = 0;
-    while k < m {
+    for k in 0..m {
         if ids[k] == id {
             return k;
         }
-        k += 1;
     }
-    k
+    m
 }
 
 // A kind without a mass adds 0.
@@ -94,32 +88,30 @@ fn mass_with(sum: f64, known: bool, k: Kind) -> f64
     sum
 }
 
-// The place of the kind of each line and the corners of its box; and the mass of all.
+// The place of the kind of each line and its box; and the mass of all.
 pub(crate) fn line_columns(
     f: &[u8],
     a: Accepted,
     ids: &[u32; domain::MOST_KINDS],
     which: &mut [usize],
-    boxes: &mut [f64],
+    boxes: &mut [Extent],
 ) -> f64
     requires { Taken f.now a × (Ids (sheet_of f.now) a.kinds ids.now
-        × ((a.lines ≤ length which.old) × (6 * a.lines ≤ length boxes.old))) }
+        × ((a.lines ≤ length which.old) × (a.lines ≤ length boxes.old))) }
     ensures { (result ≡ mass_below (sheet_of f.now) a.lines)
         × (which.new ≡ filled which.old (kind_named (sheet_of f.now)) a.lines)
-        × (boxes.new ≡ boxes_filled boxes.old (box_read f.now) a.lines) }
+        × (boxes.new ≡ filled boxes.old (box_read f.now) a.lines) }
 {
     let m = a.kinds;
     let n = a.lines;
     let mut mass = 0.0;
-    let mut i = 0;
-    while i < n {
+    for i in 0..n {
         let l = records::line_in(f, a.start, i);
         let w = place_of(ids, m, l.id);
         let k = records::kind_in(f, w);
         mass = mass_with(mass, w < m, k);
         which[i] = w;
-        check_words::put_box(boxes, i, check_words::box_of(l, k));
-        i += 1;
+        boxes[i] = check_words::box_of(l, k);
     }
     mass
 }
@@ -129,18 +121,9 @@ pub(crate) fn line_columns(
 fn slot(first: u32, copy: u32, counts: bool, marks: usize) -> usize
     ensures { result ≡ slot_of marks first copy counts }
 {
-    let at = first as u64 + copy as u64;
+    let at = u64::from(first) + u64::from(copy);
     if counts & (at < marks as u64) {
         return at as usize;
-    }
-    0
-}
-
-fn one_if(on: bool) -> u32
-    ensures { (result ≡ when on 1) × (result ≤ 1) }
-{
-    if on {
-        return 1;
     }
     0
 }
@@ -165,18 +148,15 @@ pub(crate) fn mark_columns(
     let m = a.kinds;
     let n = a.lines;
     let start = a.start;
-    let mut i = 0;
-    while i < n {
+    for i in 0..n {
         let l = records::line_in(f, start, i);
         let w = domain::place_within(which[i]);
         let counts = (which[i] < m) & (l.instance < many[w]);
         let at = slot(firsts[w], l.instance, counts, seen.len());
         let was = seen[at];
-        let one = one_if(counts & !was);
         again[i] = counts & was;
         seen[at] = was | counts;
-        packed[w] = packed[w] + one;
-        i += 1;
+        packed[w] += u32::from(counts & !was);
     }
 }
 
@@ -190,9 +170,7 @@ pub(crate) fn short_column(
     requires { m ≤ most_kinds }
     ensures { short.new ≡ filled short.old (short_in packed.now many.now) m }
 {
-    let mut k = 0;
-    while k < m {
+    for k in 0..m {
         short[k] = packed[k] < many[k];
-        k += 1;
     }
 }

@@ -11,6 +11,7 @@ ghost use Rattle.check_packing.specs.Findings.{wrongly_listed};
 ghost use Rattle.check_packing.specs.Columns.{Ids, Short, Listed};
 
 use crate::columns;
+use check_words::Finding;
 use file_accept::Accepted;
 use file_read::records;
 
@@ -26,12 +27,10 @@ pub(crate) fn listed_column(
 {
     let m = a.kinds;
     let u = a.unplaced;
-    let mut i = 0;
-    while i < u {
+    for i in 0..u {
         let w = columns::place_of(ids, m, records::unplaced_in(f, a.end, i));
         let k = domain::place_within(w);
         listed[k] = listed[k] | (w < m);
-        i += 1;
     }
 }
 
@@ -52,15 +51,13 @@ pub(crate) fn put_wrong(
     let u = a.unplaced;
     let mut seen = [false; domain::MOST_KINDS];
     let mut p = at;
-    let mut i = 0;
-    while i < u {
+    for i in 0..u {
         let id = records::unplaced_in(f, a.end, i);
         let w = columns::place_of(ids, m, id);
         let k = domain::place_within(w);
         let wrong = !(w < m) | (!short[k] | seen[k]);
-        p = check_words::put_if(out, p, wrong, 11, id as u64, 0, 0, 0);
+        p = check_words::put_if(out, p, wrong, Finding::WronglyListed { id });
         seen[k] = seen[k] | (w < m);
-        i += 1;
     }
     p
 }

@@ -2,9 +2,9 @@
 
 #![tactic(auto)]
 
-ghost use Rattle.std.specs.Prelude.{◌≡◌, ◌+◌, ◌*◌, ◌≤◌};
+ghost use Rattle.std.specs.Prelude.{◌≡◌, ◌+◌, ◌*◌, ◌≤◌, ◌<◌};
 ghost use Rattle.check_words.specs.Wrote.{room_for};
-ghost use Rattle.domain.specs.Bounds.{most_kinds, most_lines, most_unplaced, few_lines, some_lines, some_boxes};
+ghost use Rattle.domain.specs.Bounds.{most_kinds, most_lines, most_unplaced, most_boxes};
 ghost use Rattle.file_read.specs.Reading.{sheet_of};
 ghost use Rattle.file_accept.specs.Accept.{Taken};
 ghost use Rattle.check_list.specs.View.{rest_found};
@@ -14,7 +14,9 @@ ghost use Rattle.check_packing.specs.Findings.{view_of, findings};
 ghost use Rattle.check_packing.specs.Columns.{Ids, Many, Packed, LinesPut, counts_of, kind_first, Ready, Unmarked};
 ghost use Rattle.check_packing.specs.Check.{CheckedFile};
 
-use check_words::CORNERS;
+use check_pair::Extent;
+use check_words::WORDS;
+use domain::Refusal;
 use file_accept::Accepted;
 use file_read::records;
 use sheet::Counts;
@@ -22,19 +24,18 @@ use sheet::Counts;
 mod columns;
 mod left;
 
-// The refusal, 0 for none, and how many findings there are.
-#[derive(Clone, Copy)]
-pub struct Checked {
-    pub refused: u32,
-    pub count: usize,
-}
+// A box that takes no room.
+const NOWHERE: Extent = Extent {
+    min: [0.0, 0.0, 0.0],
+    max: [0.0, 0.0, 0.0],
+};
 
 // So many words are enough for whatever is found.
 fn room(m: usize, n: usize, u: usize) -> usize
     requires { (m ≤ most_kinds) × ((n ≤ most_lines) × (u ≤ most_unplaced)) }
     ensures { result ≡ 5 * room_for m n u }
 {
-    5 * (6 * n + n * n / 2 + m + u + 1)
+    WORDS * (6 * n + n * n / 2 + m + u + 1)
 }
 
 // What the lines gave: the words written so far, and the mass.
@@ -65,7 +66,7 @@ fn put_columns(
     out: &mut [u64],
     which: &mut [usize],
     again: &mut [bool],
-    boxes: &mut [f64],
+    boxes: &mut [Extent],
     seen: &mut [bool],
 ) -> Lined
     requires { Ready f.now a ids.now many.now packed.old × Wide a.lines which.old again.old boxes.old
@@ -81,8 +82,9 @@ fn put_columns(
     Lined { words, mass }
 }
 
-// The same with columns for as many lines and boxes as there can be.
-fn put_many(
+// The same with columns for so many lines and a mark for so many boxes.
+#[inline(never)]
+fn put_within<const LINES: usize, const BOXES: usize>(
     f: &[u8],
     a: Accepted,
     ids: &[u32; domain::MOST_KINDS],
@@ -90,86 +92,23 @@ fn put_many(
     packed: &mut [u32; domain::MOST_KINDS],
     out: &mut [u64],
 ) -> Lined
-    requires { Ready f.now a ids.now many.now packed.old }
+    requires ready { Ready f.now a ids.now many.now packed.old }
+    requires lines { a.lines ≤ LINES }
+    requires boxes { kind_first (sheet_of f.now) a.kinds ≤ BOXES }
+    requires some { 0 < BOXES }
+    requires few { (LINES ≤ most_lines) × (BOXES ≤ most_boxes) }
     ensures { LinesPut (sheet_of f.now) out.old packed.new result out.new }
 {
-    let mut which = [0usize; domain::MOST_LINES];
-    let mut again = [false; domain::MOST_LINES];
-    let mut boxes = [0.0; CORNERS * domain::MOST_LINES];
-    let mut seen = [false; domain::MOST_BOXES];
+    let mut which = [0usize; LINES];
+    let mut again = [false; LINES];
+    let mut boxes = [NOWHERE; LINES];
+    let mut seen = [false; BOXES];
     put_columns(
         f, a, ids, many, packed, out, &mut which, &mut again, &mut boxes, &mut seen,
     )
 }
 
-// The same with columns for some of them.
-fn put_some(
-    f: &[u8],
-    a: Accepted,
-    ids: &[u32; domain::MOST_KINDS],
-    many: &[u32; domain::MOST_KINDS],
-    packed: &mut [u32; domain::MOST_KINDS],
-    out: &mut [u64],
-) -> Lined
-    requires { Ready f.now a ids.now many.now packed.old
-        × (a.lines ≤ some_lines) × (kind_first (sheet_of f.now) a.kinds ≤ some_boxes) }
-    ensures { LinesPut (sheet_of f.now) out.old packed.new result out.new }
-{
-    let mut which = [0usize; domain::SOME_LINES];
-    let mut again = [false; domain::SOME_LINES];
-    let mut boxes = [0.0; CORNERS * domain::SOME_LINES];
-    let mut seen = [false; domain::SOME_BOXES];
-    put_columns(
-        f, a, ids, many, packed, out, &mut which, &mut again, &mut boxes, &mut seen,
-    )
-}
-
-// The same of a sheet with more lines or boxes than few.
-fn put_more(
-    f: &[u8],
-    a: Accepted,
-    ids: &[u32; domain::MOST_KINDS],
-    many: &[u32; domain::MOST_KINDS],
-    packed: &mut [u32; domain::MOST_KINDS],
-    out: &mut [u64],
-    all: u32,
-) -> Lined
-    requires { Ready f.now a ids.now many.now packed.old × (all ≡ kind_first (sheet_of f.now) a.kinds) }
-    ensures { LinesPut (sheet_of f.now) out.old packed.new result out.new }
-{
-    if (domain::SOME_LINES < a.lines) | (domain::SOME_BOXES < all as usize) {
-        return put_many(f, a, ids, many, packed, out);
-    }
-    put_some(f, a, ids, many, packed, out)
-}
-
-// The same of a sheet of few lines, with columns for few of both where these do.
-fn put_few(
-    f: &[u8],
-    a: Accepted,
-    ids: &[u32; domain::MOST_KINDS],
-    many: &[u32; domain::MOST_KINDS],
-    packed: &mut [u32; domain::MOST_KINDS],
-    out: &mut [u64],
-    all: u32,
-) -> Lined
-    requires { Ready f.now a ids.now many.now packed.old × (a.lines ≤ few_lines)
-        × (all ≡ kind_first (sheet_of f.now) a.kinds) }
-    ensures { LinesPut (sheet_of f.now) out.old packed.new result out.new }
-{
-    if domain::FEW_BOXES < all as usize {
-        return put_more(f, a, ids, many, packed, out, all);
-    }
-    let mut which = [0usize; domain::FEW_LINES];
-    let mut again = [false; domain::FEW_LINES];
-    let mut boxes = [0.0; CORNERS * domain::FEW_LINES];
-    let mut seen = [false; domain::FEW_BOXES];
-    put_columns(
-        f, a, ids, many, packed, out, &mut which, &mut again, &mut boxes, &mut seen,
-    )
-}
-
-// The same for every sheet: one without lines has none, and no column of lines is made for it.
+// The same for every sheet, with columns of the least size that does: one without lines has none, and no column of lines is made for it.
 fn put_lines(
     f: &[u8],
     a: Accepted,
@@ -179,7 +118,8 @@ fn put_lines(
     out: &mut [u64],
     all: u32,
 ) -> Lined
-    requires { Ready f.now a ids.now many.now packed.old × (all ≡ kind_first (sheet_of f.now) a.kinds) }
+    requires ready { Ready f.now a ids.now many.now packed.old }
+    requires all { all ≡ kind_first (sheet_of f.now) a.kinds }
     ensures { LinesPut (sheet_of f.now) out.old packed.new result out.new }
 {
     if a.lines == 0 {
@@ -188,10 +128,18 @@ fn put_lines(
             mass: 0.0,
         };
     }
-    if a.lines <= domain::FEW_LINES {
-        return put_few(f, a, ids, many, packed, out, all);
+    let boxes = all as usize;
+    if (a.lines <= domain::FEW_LINES) & (boxes <= domain::FEW_BOXES) {
+        return put_within::<{ domain::FEW_LINES }, { domain::FEW_BOXES }>(
+            f, a, ids, many, packed, out,
+        );
     }
-    put_more(f, a, ids, many, packed, out, all)
+    if (a.lines <= domain::SOME_LINES) & (boxes <= domain::SOME_BOXES) {
+        return put_within::<{ domain::SOME_LINES }, { domain::SOME_BOXES }>(
+            f, a, ids, many, packed, out,
+        );
+    }
+    put_within::<{ domain::MOST_LINES }, { domain::MOST_BOXES }>(f, a, ids, many, packed, out)
 }
 
 // The findings on the mass and the unplaced list, behind those of the lines; and where they end.
@@ -232,49 +180,30 @@ fn put_all(f: &[u8], a: Accepted, out: &mut [u64]) -> usize
 
 // The findings on an accepted file. Where the room lent is enough whatever is found, they are written in one run; else they are
 // counted first, and a file without findings is not gone through again.
-fn list(f: &[u8], a: Accepted, out: &mut [u64]) -> Checked
+fn list(f: &[u8], a: Accepted, out: &mut [u64]) -> Result<usize, Refusal>
     requires { Taken f.now a }
     ensures { CheckedFile f.now out.old result out.new }
 {
     if room(a.kinds, a.lines, a.unplaced) <= out.len() {
-        let r = put_all(f, a, out);
-        return Checked {
-            refused: 0,
-            count: r / 5,
-        };
+        return Ok(put_all(f, a, out) / WORDS);
     }
     let mut none = [0u64; 1];
     let n = put_all(f, a, &mut none);
     if n == 0 {
-        return Checked {
-            refused: 0,
-            count: 0,
-        };
+        return Ok(0);
     }
     if out.len() < n {
-        return Checked {
-            refused: 6,
-            count: n / 5,
-        };
+        return Err(Refusal::Room(n / WORDS));
     }
     put_all(f, a, out);
-    Checked {
-        refused: 0,
-        count: n / 5,
-    }
+    Ok(n / WORDS)
 }
 
-// Checks a load file. The findings go to the lent cells, five words each; where they have no room, nothing is written and their
-// number is returned with refusal 6.
-pub fn check_packing(file: &[u8], out: &mut [u64]) -> Checked
+// Checks a load file, and says how many findings there are. They go to the lent cells, five words each; where they have no room,
+// nothing is written, and the refusal tells their number.
+pub fn check_packing(file: &[u8], out: &mut [u64]) -> Result<usize, Refusal>
     ensures { CheckedFile file.now out.old result out.new }
 {
-    let a = file_accept::accept(file);
-    if a.refused != 0 {
-        return Checked {
-            refused: a.refused,
-            count: 0,
-        };
-    }
+    let a = file_accept::accept(file)?;
     list(file, a, out)
 }

@@ -20,11 +20,19 @@ pub struct Extent {
     pub max: [f64; 3],
 }
 
+// The verdict on two boxes; of boxes that are too close their distance.
 #[derive(Clone, Copy)]
 pub enum Verdict {
     Apart,
     Overlap,
     TooClose(f64),
+}
+
+// What pairs are judged by: how far apart boxes are to be, and the tolerance.
+#[derive(Clone, Copy)]
+pub struct Clearance {
+    pub asked: f64,
+    pub slack: f64,
 }
 
 // The number without its sign.
@@ -45,24 +53,6 @@ pub fn tolerance(size: [f64; 3]) -> f64
     let d = floats::larger(w, magnitude(size[1]));
     let h = floats::larger(d, magnitude(size[2]));
     domain::SLACK * h + domain::SLACK
-}
-
-// The gap between two boxes on an axis; below zero where they overlap on it.
-fn gap(a: Extent, b: Extent, axis: usize) -> f64
-    requires { axis < 3 }
-    ensures { result ≡ gap a b axis }
-{
-    let amin = a.min;
-    let amax = a.max;
-    let bmin = b.min;
-    let bmax = b.max;
-    floats::larger(bmin[axis] - amax[axis], amin[axis] - bmax[axis])
-}
-
-fn gaps(a: Extent, b: Extent) -> [f64; 3]
-    ensures { result ≡ gaps a b }
-{
-    [gap(a, b, 0), gap(a, b, 1), gap(a, b, 2)]
 }
 
 fn overlaps(g: [f64; 3], t: f64) -> bool
@@ -86,23 +76,15 @@ fn sum_of(g: [f64; 3]) -> f64
     (squared(g[0]) + squared(g[1])) + squared(g[2])
 }
 
-// The distance, whatever number q is: the hint of these gaps, with which it is quicker, or 0 for none.
-fn distance(g: [f64; 3], q: u64) -> f64
+// The distance, whatever number is handed over as the hint of these gaps, with which it is quicker.
+fn distance(g: [f64; 3], hint: Option<u64>) -> f64
     ensures { result ≡ distance_of g }
 {
     let s = sum_of(g);
-    if q == 0 {
-        return check_root::sqrt(s);
+    match hint {
+        Some(q) => check_root::sqrt_by(s, q),
+        None => check_root::sqrt(s),
     }
-    check_root::sqrt_by(s, q)
-}
-
-// A hint for the root that a verdict on two boxes may take, to be handed to `judge`. No branch, so that the hints of many pairs are
-// worked out side by side.
-pub fn hint(a: Extent, b: Extent) -> u64
-    ensures { result ≡ hint_of (sum_of (gaps a b)) }
-{
-    check_root::hint(sum_of(gaps(a, b)))
 }
 
 // A number whose square neither overflows nor loses digits.
@@ -126,97 +108,122 @@ fn far_enough(g: [f64; 3], least: f64) -> bool
     (least <= 0.0) | (plain(least) & some_gap(least, g))
 }
 
-// The verdict on two boxes that are to be `asked` apart, with the tolerance t, whatever number q is: their `hint`, with which it is
-// quicker, or 0 for none.
-pub fn judge(a: Extent, b: Extent, asked: f64, t: f64, q: u64) -> Verdict
-    ensures { result ≡ verdict_of a b asked t }
-{
-    let g = gaps(a, b);
-    if overlaps(g, t) {
-        return Verdict::Overlap;
+impl Extent {
+    // The gap between two boxes on an axis; below zero where they overlap on it.
+    fn gap(self, other: Extent, axis: usize) -> f64
+        requires { axis < 3 }
+        ensures { result ≡ gap self other axis }
+    {
+        floats::larger(
+            other.min[axis] - self.max[axis],
+            self.min[axis] - other.max[axis],
+        )
     }
-    let least = asked - t;
-    if far_enough(g, least) {
-        return Verdict::Apart;
+
+    fn gaps(self, other: Extent) -> [f64; 3]
+        ensures { result ≡ gaps self other }
+    {
+        [self.gap(other, 0), self.gap(other, 1), self.gap(other, 2)]
     }
-    let d = distance(g, q);
-    if d < least {
-        return Verdict::TooClose(d);
+
+    // A hint for the root that a verdict on two boxes may take, to be handed to `judge`. No branch, so that the hints of many pairs are
+    // worked out side by side.
+    pub fn hint(self, other: Extent) -> u64
+        ensures { result ≡ hint_of (sum_of (gaps self other)) }
+    {
+        check_root::hint(sum_of(self.gaps(other)))
     }
-    Verdict::Apart
+
+    // Whether one gap is at least the limit. No branch, so that a loop over many boxes is done a few at a time.
+    pub fn is_far(self, other: Extent, limit: f64) -> bool
+        ensures { result ≡ some_gap limit (gaps self other) }
+    {
+        some_gap(limit, self.gaps(other))
+    }
+
+    // Whether on an axis a span is within what corners can be, and the box within the span.
+    fn spans_on(self, e: Extent, axis: usize) -> bool
+        requires { axis < 3 }
+        ensures { result ≡ spans_on self e axis }
+    {
+        let ordinary = (-domain::MOST_LIMIT <= self.min[axis])
+            & (self.max[axis] <= domain::MOST_LIMIT);
+        let past = (e.min[axis] <= e.max[axis]) & (e.max[axis] <= self.max[axis]);
+        ordinary & ((self.min[axis] <= e.min[axis]) & past)
+    }
+
+    // Whether a box is within a span. No branch, so that a loop over many boxes is done a few at a time.
+    pub fn spans(self, e: Extent) -> bool
+        ensures { result ≡ spans self e }
+    {
+        self.spans_on(e, 0) & (self.spans_on(e, 1) & self.spans_on(e, 2))
+    }
 }
 
-// Sums of squares up to this are too close without a root, where boxes are to be `asked` apart: a little less than the square of what is
-// asked, if the root of that is below it, which one root tells.
-pub fn close(asked: f64, t: f64) -> f64
-    ensures { result ≡ close_of asked t }
-{
-    let least = asked - t;
-    let c = NEARLY * (least * least);
-    if check_root::sqrt(c) < least {
-        return c;
+impl Clearance {
+    // The verdict on two boxes, whatever number is handed over as their `hint`, with which it is quicker.
+    pub fn judge(self, a: Extent, b: Extent, hint: Option<u64>) -> Verdict
+        ensures { result ≡ verdict_of a b self.asked self.slack }
+    {
+        let g = a.gaps(b);
+        if overlaps(g, self.slack) {
+            return Verdict::Overlap;
+        }
+        let least = self.asked - self.slack;
+        if far_enough(g, least) {
+            return Verdict::Apart;
+        }
+        let d = distance(g, hint);
+        if d < least {
+            return Verdict::TooClose(d);
+        }
+        Verdict::Apart
     }
-    0.0
-}
 
-// Whether two boxes get a finding, for whoever does not ask for the distance. Sums of squares above 0 and up to `close` count as too close.
-pub fn is_found(a: Extent, b: Extent, asked: f64, t: f64, close: f64) -> bool
-    ensures { result ≡ found_by close (gaps a b) asked t }
-{
-    let g = gaps(a, b);
-    if overlaps(g, t) {
-        return true;
+    // Sums of squares up to this are too close without a root: a little less than the square of what is asked, if the root of that is
+    // below it, which one root tells.
+    pub fn close(self) -> f64
+        ensures { result ≡ close_of self.asked self.slack }
+    {
+        let least = self.asked - self.slack;
+        let c = NEARLY * (least * least);
+        if check_root::sqrt(c) < least {
+            return c;
+        }
+        0.0
     }
-    let s = sum_of(g);
-    if (0.0 < s) & (s <= close) {
-        return true;
-    }
-    let least = asked - t;
-    if far_enough(g, least) {
-        return false;
-    }
-    check_root::sqrt(s) < least
-}
 
-// From this gap on, on one axis, two boxes that are to be `asked` apart get no finding. Not a number, which no gap is at
-// least, where one gap alone does not tell.
-pub fn limit(asked: f64, t: f64) -> f64
-    ensures { result ≡ limit_of asked t }
-{
-    let least = asked - t;
-    if least <= 0.0 {
-        return -t;
+    // Whether two boxes get a finding, for whoever does not ask for the distance. Sums of squares above 0 and up to `close` count as
+    // too close.
+    pub fn is_found(self, a: Extent, b: Extent, close: f64) -> bool
+        ensures { result ≡ found_by close (gaps a b) self.asked self.slack }
+    {
+        let g = a.gaps(b);
+        if overlaps(g, self.slack) {
+            return true;
+        }
+        let s = sum_of(g);
+        if (0.0 < s) & (s <= close) {
+            return true;
+        }
+        let least = self.asked - self.slack;
+        if far_enough(g, least) {
+            return false;
+        }
+        check_root::sqrt(s) < least
     }
-    if plain(least) & (-t <= least) {
-        return least;
+
+    // From this gap on, on one axis, two boxes get no finding. Not a number, which no gap is at least, where one gap alone does not tell.
+    pub fn limit(self) -> f64
+        ensures { result ≡ limit_of self.asked self.slack }
+    {
+        let least = self.asked - self.slack;
+        if least <= 0.0 {
+            return -self.slack;
+        }
+        if plain(least) & (-self.slack <= least) {
+            return least;
+        }
+        0.0 / 0.0
     }
-    0.0 / 0.0
-}
-
-// Whether one gap is at least the limit. No branch, so that a loop over many boxes is done a few at a time.
-pub fn is_far(a: Extent, b: Extent, limit: f64) -> bool
-    ensures { result ≡ some_gap limit (gaps a b) }
-{
-    some_gap(limit, gaps(a, b))
-}
-
-// Whether on an axis a span is within what corners can be, and the box within the span.
-fn spans_on(s: Extent, e: Extent, axis: usize) -> bool
-    requires { axis < 3 }
-    ensures { result ≡ spans_on s e axis }
-{
-    let low = s.min;
-    let high = s.max;
-    let near = e.min;
-    let far = e.max;
-    let ordinary = (-domain::MOST_LIMIT <= low[axis]) & (high[axis] <= domain::MOST_LIMIT);
-    let past = (near[axis] <= far[axis]) & (far[axis] <= high[axis]);
-    ordinary & ((low[axis] <= near[axis]) & past)
-}
-
-// Whether a box is within a span. No branch, so that a loop over many boxes is done a few at a time.
-pub fn is_spanned(s: Extent, e: Extent) -> bool
-    ensures { result ≡ spans s e }
-{
-    spans_on(s, e, 0) & (spans_on(s, e, 1) & spans_on(s, e, 2))
 }

@@ -2,7 +2,7 @@
 
 #![tactic(auto)]
 
-ghost use Rattle.std.specs.Prelude.{◌≡◌, ◌+◌, ◌*◌, ◌^◌, ◌<◌, ◌≤◌, cond};
+ghost use Rattle.std.specs.Prelude.{◌≡◌, ◌+◌, ◌*◌, ◌^◌, ◌<◌, ◌≤◌, IfSome};
 ghost use Rattle.std.specs.Float.{binary64};
 ghost use Rattle.check_root.specs.Root.{near_root};
 ghost use Rattle.check_root.specs.Sqrt.{rounded, sqrt_of, mag};
@@ -13,6 +13,10 @@ ghost use Rattle.check_root.specs.Hint.{hint_of};
 struct Scaled {
     m: u64,
     g: u64,
+    ghost some: { 0 < m },
+    ghost digits: { m < 2 ^ 54 },
+    ghost low: { 510 ≤ g },
+    ghost high: { g < 1560 },
 }
 
 // A root q of q * q + r, and what is left, r.
@@ -20,12 +24,17 @@ struct Scaled {
 struct Part {
     q: u64,
     r: u64,
+    ghost left: { r ≤ 2 * q },
 }
 
 // q * 2 ^ (e + 1073), as m * 4 ^ g.
 fn paired(q: u64, e: u64) -> Scaled
-    requires { (0 < q) × ((q < 2 ^ 53) × ((0 < e) × (e < 2047))) }
-    ensures { (result.m * 4 ^ result.g ≡ q * 2 ^ (e + 1073)) × ((0 < result.m) × ((result.m < 2 ^ 54) × ((537 ≤ result.g) × (result.g < 1560)))) }
+    requires some { 0 < q }
+    requires digits { q < 2 ^ 53 }
+    requires low { 0 < e }
+    requires high { e < 2047 }
+    ensures value { result.m * 4 ^ result.g ≡ q * 2 ^ (e + 1073) }
+    ensures deep { 537 ≤ result.g }
 {
     if e % 2 == 0 {
         Scaled {
@@ -42,8 +51,10 @@ fn paired(q: u64, e: u64) -> Scaled
 
 // The positive finite number with the bit pattern b. An exponent's field of 0 has no leading digit.
 fn units(b: u64) -> Scaled
-    requires { (0 < b) × (b < 2047 * 2 ^ 52) }
-    ensures { (result.m * 4 ^ result.g ≡ mag b * 2 ^ 1074) × ((0 < result.m) × ((result.m < 2 ^ 54) × ((537 ≤ result.g) × (result.g < 1560)))) }
+    requires some { 0 < b }
+    requires finite { b < 2047 * 2 ^ 52 }
+    ensures value { result.m * 4 ^ result.g ≡ mag b * 2 ^ 1074 }
+    ensures deep { 537 ≤ result.g }
 {
     let f = b / 4503599627370496;
     let t = b % 4503599627370496;
@@ -54,61 +65,66 @@ fn units(b: u64) -> Scaled
     }
 }
 
-// The same number, with m from 2^52 up.
-fn normal(s: Scaled) -> Scaled
-    requires { (0 < s.m) × ((s.m < 2 ^ 54) × ((537 ≤ s.g) × (s.g < 1560))) }
-    ensures { (result.m * 4 ^ result.g ≡ s.m * 4 ^ s.g) × ((2 ^ 52 ≤ result.m) × ((result.m < 2 ^ 54) × ((510 ≤ result.g) × (result.g < 1560)))) }
-{
-    let mut m = s.m;
-    let mut g = s.g;
-    while m < 4503599627370496 {
-        m = 4 * m;
-        g = g - 1;
+impl Scaled {
+    // The same number, with m from 2^52 up.
+    fn normal(self) -> Scaled
+        requires deep { 537 ≤ self.g }
+        ensures value { result.m * 4 ^ result.g ≡ self.m * 4 ^ self.g }
+        ensures normal { 2 ^ 52 ≤ result.m }
+    {
+        let mut m = self.m;
+        let mut g = self.g;
+        // Stays: it counts nothing, and goes on until the number is long enough.
+        while m < 4503599627370496 {
+            m *= 4;
+            g -= 1;
+        }
+        Scaled { m, g }
     }
-    Scaled { m, g }
 }
 
-// One more binary digit of the root, for two more digits d of the number.
-fn step(p: Part, d: u64) -> Part
-    requires { (p.r ≤ 2 * p.q) × ((p.q < 2 ^ 60) × (d < 4)) }
-    ensures { (result.q * result.q + result.r ≡ 4 * (p.q * p.q + p.r) + d) × ((result.r ≤ 2 * result.q) × (result.q ≤ 2 * p.q + 1)) }
-{
-    let r = 4 * p.r + d;
-    let t = 4 * p.q + 1;
-    if r < t {
-        Part { q: 2 * p.q, r }
-    } else {
-        Part {
-            q: 2 * p.q + 1,
-            r: r - t,
+impl Part {
+    // One more binary digit of the root, for two more digits d of the number.
+    fn step(self, d: u64) -> Part
+        requires small { self.q < 2 ^ 60 }
+        requires digits { d < 4 }
+        ensures value { result.q * result.q + result.r ≡ 4 * (self.q * self.q + self.r) + d }
+        ensures grows { result.q ≤ 2 * self.q + 1 }
+    {
+        let r = 4 * self.r + d;
+        let t = 4 * self.q + 1;
+        if r < t {
+            Part { q: 2 * self.q, r }
+        } else {
+            Part {
+                q: 2 * self.q + 1,
+                r: r - t,
+            }
         }
+    }
+
+    // 26 digits more: those of the root of the number times 4 ^ 26.
+    fn extended(self) -> Part
+        requires small { self.q < 2 ^ 27 }
+        ensures value { result.q * result.q + result.r ≡ (self.q * self.q + self.r) * 4 ^ 26 }
+        ensures digits { result.q < 2 ^ 53 }
+    {
+        let mut p = self;
+        for _i in 0..26u64 {
+            p = p.step(0);
+        }
+        p
     }
 }
 
 // The whole root of m, of up to 54 digits.
 fn whole_root(m: u64) -> Part
     requires { m < 2 ^ 54 }
-    ensures { (result.q * result.q + result.r ≡ m) × (result.r ≤ 2 * result.q) }
+    ensures { result.q * result.q + result.r ≡ m }
 {
     let mut p = Part { q: 0, r: 0 };
-    let mut i: u64 = 54;
-    while 0 < i {
-        i = i - 2;
-        p = step(p, (m >> i) % 4);
-    }
-    p
-}
-
-// 26 digits more: those of the root of the number times 4 ^ 26.
-fn extended(s: Part) -> Part
-    requires { (s.r ≤ 2 * s.q) × (s.q < 2 ^ 27) }
-    ensures { (result.q * result.q + result.r ≡ (s.q * s.q + s.r) * 4 ^ 26) × ((result.r ≤ 2 * result.q) × (result.q < 2 ^ 53)) }
-{
-    let mut p = s;
-    let mut i: u64 = 0;
-    while i < 26 {
-        p = step(p, 0);
-        i = i + 1;
+    for i in 0..27u64 {
+        p = p.step((m >> (52 - 2 * i)) % 4);
     }
     p
 }
@@ -117,9 +133,10 @@ fn extended(s: Part) -> Part
 // q * q + r is above (q + 1/2)² exactly where r is above q.
 fn near_root(m: u64) -> u64
     requires { m < 2 ^ 54 }
-    ensures { (result ≡ near_root (m * 4 ^ 26)) × (result ≤ 2 ^ 53) }
+    ensures value { result ≡ near_root (m * 4 ^ 26) }
+    ensures small { result ≤ 2 ^ 53 }
 {
-    let p = extended(whole_root(m));
+    let p = whole_root(m).extended();
     if p.q < p.r { p.q + 1 } else { p.q }
 }
 
@@ -133,7 +150,9 @@ struct Square {
 // The square of k, by its two digits of 26 bits.
 fn squared(k: u64) -> Square
     requires { k ≤ 2 ^ 53 }
-    ensures { (result.h * 2 ^ 52 + result.t ≡ k * k) × ((result.h ≤ 2 ^ 55) × (result.t < 2 ^ 53)) }
+    ensures value { result.h * 2 ^ 52 + result.t ≡ k * k }
+    ensures high { result.h ≤ 2 ^ 55 }
+    ensures low { result.t < 2 ^ 53 }
 {
     let a = k / 67108864;
     let c = k % 67108864;
@@ -144,55 +163,52 @@ fn squared(k: u64) -> Square
     }
 }
 
-fn one_if(on: bool) -> u64
-    ensures { (result ≡ cond on 1 0) × (result ≤ 1) }
-{
-    if on { 1 } else { 0 }
-}
-
-// How k stands to the whole number nearest to the root of m * 2^52: 1 where it is that number, which is so where k(k - 1) < m * 2^52
-// and m * 2^52 <= k(k + 1); 0 and 2 where it is one more and one less; 3 where it is further off. No branch tells the first three apart.
-fn stands(m: u64, k: u64) -> u64
-    requires { (m < 2 ^ 54) × ((1 < k) × (k < 2 ^ 53)) }
-    ensures { (result ≤ 3) × (result < 3 → k + result ≡ near_root (m * 4 ^ 26) + 1) }
+// The whole number nearest to the root of m * 2^52, where k is it or next to it: k itself where k(k - 1) < m * 2^52 and
+// m * 2^52 <= k(k + 1). None where k is further off. No branch tells the three apart.
+fn next_to(m: u64, k: u64) -> Option<u64>
+    requires digits { m < 2 ^ 54 }
+    requires some { 1 < k }
+    requires below { k < 2 ^ 53 }
+    ensures value { IfSome result (λ q. q ≡ near_root (m * 4 ^ 26)) }
+    ensures small { IfSome result (λ q. q ≤ 2 ^ 53) }
 {
     let s = squared(k);
     if m + 2 < s.h {
-        return 3;
+        return None;
     }
     if s.h + 4 < m {
-        return 3;
+        return None;
     }
     let e = (m + 2 - s.h) * 4503599627370496;
     let t = s.t + 9007199254740992;
     if e + 3 * k <= t + 2 {
-        return 3;
+        return None;
     }
     if t + 3 * k + 2 < e {
-        return 3;
+        return None;
     }
-    1 + one_if(t + k < e) - one_if(e + k <= t)
+    Some(k + u64::from(t + k < e) - u64::from(e + k <= t))
 }
 
-// That number, where k is it or next to it; else it is worked out.
+// That number, whatever k is.
 fn near_by(m: u64, k: u64) -> u64
-    requires { (m < 2 ^ 54) × ((1 < k) × (k < 2 ^ 53)) }
-    ensures { (result ≡ near_root (m * 4 ^ 26)) × (result ≤ 2 ^ 53) }
+    requires digits { m < 2 ^ 54 }
+    requires some { 1 < k }
+    requires below { k < 2 ^ 53 }
+    ensures value { result ≡ near_root (m * 4 ^ 26) }
+    ensures small { result ≤ 2 ^ 53 }
 {
-    let r = stands(m, k);
-    if 2 < r {
-        return near_root(m);
-    }
-    k + r - 1
+    next_to(m, k).unwrap_or_else(|| near_root(m))
 }
 
 // The root of the number with this bit pattern, by a number q whose last 52 digits its own are tried with. A carry to 2^53 moves the
 // exponent on by itself.
 fn of_pattern(b: u64, q: u64) -> f64
-    requires { (0 < b) × (b < 2047 * 2 ^ 52) }
+    requires some { 0 < b }
+    requires finite { b < 2047 * 2 ^ 52 }
     ensures { result ≡ rounded binary64 (mag b * 2 ^ 1074) }
 {
-    let s = normal(units(b));
+    let s = units(b).normal();
     let k = q % 4503599627370496 + 4503599627370496;
     floats::of_bits(near_by(s.m, k) + (s.g - 26) * 4503599627370496)
 }

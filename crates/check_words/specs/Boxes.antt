@@ -1,5 +1,5 @@
--- The box of a line. RULES: Findings: lines
-use Rattle.std.specs.Prelude.{[], ◌∷◌}
+-- The box of a line, and of several boxes one. RULES: Findings: lines
+use Rattle.std.specs.Prelude.{ℕ, List, [], ◌∷◌, get_or}
 use Rattle.floats.specs.Ops.{◌⊕◌, x, y, z}
 use Rattle.measures.specs.declared.Kind.{Kind}
 use Rattle.measures.specs.Orders.{lengths_in}
@@ -14,3 +14,7 @@ box_of l k =
       min = x l.at ∷ y l.at ∷ z l.at ∷ [];
       max = (x l.at ⊕ x size) ∷ (y l.at ⊕ y size) ∷ (z l.at ⊕ z size) ∷ [];
     }
+
+-- box i of several; one without sides where there is none
+abbrev pub box_at : List Extent → ℕ → Extent
+box_at boxes i = get_or boxes i (record { min = []; max = [] })

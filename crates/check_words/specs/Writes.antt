@@ -1,8 +1,9 @@
 -- Laws on words written part by part.
-use Rattle.std.specs.Prelude.{◌≡◌, refl, ℕ, suc, ◌+◌, List, [], ◌∷◌, ◌++◌, length, set, Bool, true, false}
-use Rattle.std.proofs.Common.{sym, ap, ◌∙◌, add-zero, add-suc, suc-add, add-one, arith, length-append}
-use Rattle.std.proofs.lemmas.List.Edits.{sets}
-use Rattle.std.proofs.Math.Seq.{length-sets}
+use Rattle.std.specs.Prelude.{◌≡◌, refl, ℕ, suc, ◌+◌, ◌≤◌, List, [], ◌∷◌, ◌++◌, length, take, drop, set, Bool, true, false}
+use Rattle.std.proofs.Common.{sym, ap, ◌∙◌, add-zero, add-suc, suc-add, add-one, arith, append_assoc, length-append, drop-drop}
+use Rattle.std.proofs.lemmas.List.{length-take-le, take-append-drop}
+use Rattle.std.proofs.lemmas.List.Edits.{sets, sets-eq}
+use Rattle.std.proofs.Math.Seq.{length-sets, set_out}
 use Rattle.lists.specs.Below.{all_below}
 use Rattle.check_words.specs.Words.{only_if}
 use Rattle.check_words.specs.Wrote.{Wrote}
@@ -21,15 +22,35 @@ wrote_then {o} {o₁} {o₂} {at} {m} {r} {ws} {vs} a b =
       cells = b.cells ∙ rw (a.cells, a.next) (sym (sets_append o at ws vs));
     }
 
--- five cells stored one by one
-pub wrote_five : (o : List ℕ) (at a b c d e : ℕ)
-    → Wrote o at (a ∷ b ∷ c ∷ d ∷ e ∷ []) (at + 5) (set (set (set (set (set o at a) (at + 1) b) (at + 2) c) (at + 3) d) (at + 4) e)
-wrote_five o at a b c d e =
-    let p : at + 1 ≡ suc at = omega arith in
-    let q : at + 2 ≡ suc (suc at) = omega arith in
-    let r : at + 3 ≡ suc (suc (suc at)) = omega arith in
-    let s : at + 4 ≡ suc (suc (suc (suc at))) = omega arith in
-    record { next = refl; cells = rw (p, q, r, s) }
+-- words that are past the last cell
+sets_past : (o : List ℕ) (at : ℕ) (ws : List ℕ) → length o ≤ at → sets o at ws ≡ o
+sets_past o at [] h = refl
+sets_past o at (w ∷ ws) h = rw (set_out o at w h) (sets_past o (suc at) ws (omega arith))
+
+pub wrote_past : (o : List ℕ) (at : ℕ) (ws : List ℕ) → length o ≤ at → Wrote o at ws (at + length ws) o
+wrote_past o at ws h = record { next = refl; cells = sym (sets_past o at ws h) }
+
+-- words that all have a cell
+pub wrote_whole : (o : List ℕ) (at n : ℕ) (ws : List ℕ) → n ≡ length ws → at + n ≤ length o
+    → Wrote o at ws (at + length ws) (take at o ++ (ws ++ drop n (drop at o)))
+wrote_whole o at n ws e h =
+    record { next = refl; cells = rw (e, drop-drop) (sym (sets-eq ws o at (rw e at h) ∙ append_assoc (take at o) ws _)) }
+
+-- words of which the first n have one
+pub wrote_part : (o : List ℕ) (at n : ℕ) (ws : List ℕ) → n ≤ length ws → at + n ≡ length o
+    → Wrote o at ws (at + length ws) (take at o ++ (take n ws ++ drop n (drop at o)))
+wrote_part o at n ws h e =
+    let l : length (take n ws) ≡ n = length-take-le n ws h in
+    let f = wrote_whole o at n (take n ws) (sym l) (omega arith) in
+    let m = length-sets o at (take n ws) in
+    record {
+      next = refl;
+      cells =
+          f.cells
+          ∙ sym (sets_past (sets o at (take n ws)) (at + length (take n ws)) (drop n ws) (omega arith))
+          ∙ sym (sets_append o at (take n ws) (drop n ws))
+          ∙ ap (sets o at) (take-append-drop n ws);
+    }
 
 -- one more turn of a loop
 pub wrote_more : (g : ℕ → List ℕ) (n : ℕ) {o o₁ o₂ : List ℕ} {at m r : ℕ}

@@ -1,12 +1,11 @@
-// What the parts of the checker share: a finding written into lent cells, and the box of a line.
+// What the parts of the checker share: the findings and how they are written into lent cells, and the box of a line.
 
 #![tactic(auto)]
 
-ghost use Rattle.std.specs.Prelude.{◌≡◌, [], ◌∷◌, ◌+◌, ◌<◌};
-ghost use Rattle.check_words.specs.Words.{only_if};
+ghost use Rattle.std.specs.Prelude.{◌≡◌, ◌+◌, ◌<◌, length};
+ghost use Rattle.check_words.specs.Words.{words_of, only_if};
 ghost use Rattle.check_words.specs.Wrote.{Wrote, Given, most_words};
 ghost use Rattle.check_words.specs.Boxes.{box_of};
-ghost use Rattle.check_words.specs.Corners.{box_in};
 
 use check_pair::Extent;
 use measures::Kind;
@@ -15,51 +14,141 @@ use sheet::Line;
 // Half a square of lines: as many as there are pairs, and some more.
 const PAIRS: usize = domain::MOST_LINES * domain::MOST_LINES / 2;
 
+// Words of a finding.
+pub const WORDS: usize = 5;
+
 // No finding begins past so many cells: five words for each that there can be.
-const MOST_WORDS: usize = 5
+const MOST_WORDS: usize = WORDS
     * (6 * domain::MOST_LINES + PAIRS + domain::MOST_KINDS + domain::MOST_UNPLACED + 1);
 
-// A word past the last cell is not stored, so that the same run counts and writes.
-fn put(out: &mut [u64], at: usize, w: u64) -> usize
-    requires { at < most_words + 5 }
-    ensures { Wrote out.old at (w ∷ []) result out.new }
-{
-    if out.len() <= at {
-        return at + 1;
-    }
-    out[at] = w;
-    at + 1
+// What can be found. Lines are told by their number from 0 on, kinds and boxes by their id. RULES: Findings: words
+#[derive(Clone, Copy)]
+pub enum Finding {
+    Unknown {
+        line: usize,
+        id: u32,
+    },
+    OutOfRange {
+        line: usize,
+        id: u32,
+        instance: u32,
+        quantity: u32,
+    },
+    Repeated {
+        line: usize,
+        id: u32,
+        instance: u32,
+    },
+    Turned {
+        line: usize,
+        id: u32,
+        orientation: u32,
+    },
+    Elsewhere {
+        line: usize,
+        bin: u32,
+    },
+    Outside {
+        line: usize,
+        id: u32,
+    },
+    Overlap {
+        first: usize,
+        second: usize,
+    },
+    TooClose {
+        first: usize,
+        second: usize,
+        distance: f64,
+        asked: f64,
+    },
+    Overweight {
+        mass: f64,
+        limit: f64,
+    },
+    Missing {
+        id: u32,
+    },
+    WronglyListed {
+        id: u32,
+    },
 }
 
-// Where all five have a cell they are stored without a further test.
-fn put5(out: &mut [u64], at: usize, a: u64, b: u64, c: u64, d: u64, e: u64) -> usize
-    requires { at < most_words }
-    ensures { Wrote out.old at (a ∷ b ∷ c ∷ d ∷ e ∷ []) result out.new }
-{
-    if at + 5 <= out.len() {
-        out[at] = a;
-        out[at + 1] = b;
-        out[at + 2] = c;
-        out[at + 3] = d;
-        out[at + 4] = e;
-        return at + 5;
+impl Finding {
+    // Its number, and what it tells; a word that is not needed is 0.
+    fn words(self) -> [u64; 5]
+        ensures { result ≡ words_of self }
+    {
+        match self {
+            Finding::Unknown { line, id } => [1, line as u64, u64::from(id), 0, 0],
+            Finding::OutOfRange {
+                line,
+                id,
+                instance,
+                quantity,
+            } => [
+                2,
+                line as u64,
+                u64::from(id),
+                u64::from(instance),
+                u64::from(quantity),
+            ],
+            Finding::Repeated { line, id, instance } => {
+                [3, line as u64, u64::from(id), u64::from(instance), 0]
+            }
+            Finding::Turned {
+                line,
+                id,
+                orientation,
+            } => { [4, line as u64, u64::from(id), u64::from(orientation), 0] }
+            Finding::Elsewhere { line, bin } => [5, line as u64, u64::from(bin), 0, 0],
+            Finding::Outside { line, id } => [6, line as u64, u64::from(id), 0, 0],
+            Finding::Overlap { first, second } => [7, first as u64, second as u64, 0, 0],
+            Finding::TooClose {
+                first,
+                second,
+                distance,
+                asked,
+            } => [
+                8,
+                first as u64,
+                second as u64,
+                floats::bits_of(distance),
+                floats::bits_of(asked),
+            ],
+            Finding::Overweight { mass, limit } => {
+                [9, floats::bits_of(mass), floats::bits_of(limit), 0, 0]
+            }
+            Finding::Missing { id } => [10, u64::from(id), 0, 0, 0],
+            Finding::WronglyListed { id } => [11, u64::from(id), 0, 0, 0],
+        }
     }
-    let p = put(out, at, a);
-    let q = put(out, p, b);
-    let r = put(out, q, c);
-    let s = put(out, r, d);
-    put(out, s, e)
 }
 
-// A finding of five words where the test holds; none begins past the most cells that there can be.
-pub fn put_if(out: &mut [u64], at: usize, on: bool, a: u64, b: u64, c: u64, d: u64, e: u64) -> usize
-    ensures { Given out.old at (only_if on (a ∷ b ∷ c ∷ d ∷ e ∷ [])) result out.new }
+// The words of a finding, as far as there are cells: what is past the last is not stored, so that the same run counts and writes.
+fn put(out: &mut [u64], at: usize, words: [u64; 5]) -> usize
+    requires within { at < most_words }
+    requires five { length words ≡ 5 }
+    ensures { Wrote out.old at words result out.new }
+{
+    if at + WORDS <= out.len() {
+        out[at..at + WORDS].copy_from_slice(&words);
+    } else if at < out.len() {
+        let n = out.len() - at;
+        out[at..].copy_from_slice(&words[..n]);
+    }
+    at + WORDS
+}
+
+// A finding where the test holds; none begins past the most cells that there can be.
+pub fn put_if(out: &mut [u64], at: usize, on: bool, finding: Finding) -> usize
+    ensures { Given out.old at (only_if on (words_of finding)) result out.new }
 {
     if MOST_WORDS <= at {
         return at;
     }
     if on {
-        return put5(out, at, a, b, c, d, e);
+        return put(out, at, finding.words());
     }
     at
 }
@@ -73,30 +162,4 @@ pub fn box_of(l: Line, k: Kind) -> Extent
     let min = [at[0], at[1], at[2]];
     let max = [at[0] + size[0], at[1] + size[1], at[2] + size[2]];
     Extent { min, max }
-}
-
-// Cells that the corners of a box take: near x, y and z, far x, y and z.
-pub const CORNERS: usize = 6;
-
-// Stores the corners of a box in row i, if there is such a row.
-pub fn put_box(boxes: &mut [f64], i: usize, e: Extent)
-    ensures { boxes.new ≡ box_in boxes.old i e }
-{
-    if boxes.len() / CORNERS <= i {
-        return;
-    }
-    let near = e.min;
-    let far = e.max;
-    let x = CORNERS * i;
-    let y = 1 + x;
-    let z = 1 + y;
-    let xx = 1 + z;
-    let yy = 1 + xx;
-    let zz = 1 + yy;
-    boxes[x] = near[0];
-    boxes[y] = near[1];
-    boxes[z] = near[2];
-    boxes[xx] = far[0];
-    boxes[yy] = far[1];
-    boxes[zz] = far[2];
 }

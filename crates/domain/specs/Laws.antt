@@ -25,3 +25,9 @@ first_none g zero k h l = absurd (not-suc-le-zero l)
 first_none g (suc n) k h l =
     ⊎_elim (λ e. rw e (or_else_second (first_below g n) (g n) h)) (λ m. first_none g n k (or_else_first (first_below g n) (g n) h) m)
     (eq-or-lt_of_le (le_of_suc-le-suc l))
+
+-- and the first of two that are the same below n is the same
+pub first_same : (g h : ℕ → ℕ) (n : ℕ) → ((k : ℕ) → k < n → g k ≡ h k) → first_below g n ≡ first_below h n
+unfolding first_below
+first_same g h zero e = refl
+first_same g h (suc n) e = rw (first_same g h n (λ k l. e k (omega arith)), e n (omega arith))

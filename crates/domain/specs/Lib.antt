@@ -2,4 +2,6 @@
 pub mod Bounds
 pub mod Ranges
 pub mod Refusals
+pub mod Refusal
 pub mod Laws
+pub mod Numbers

@@ -5,7 +5,8 @@
 ghost use Rattle.std.specs.Prelude.{◌≡◌, ◌<◌};
 ghost use Rattle.domain.specs.Bounds.{most_kinds, place_within};
 ghost use Rattle.domain.specs.Ranges.{is_length, is_measure, is_limit, is_position};
-ghost use Rattle.domain.specs.Refusals.{when, or_else};
+ghost use Rattle.domain.specs.Refusals.{when};
+ghost use Rattle.domain.specs.Refusal.{number_of, needed_of, answer_with};
 
 // Counts.
 pub const MOST_KINDS: usize = 64;
@@ -79,22 +80,55 @@ pub fn place_within(k: usize) -> usize
     MOST_KINDS - 1
 }
 
-// The number where the test holds, else none.
-pub fn given(b: bool, n: u32) -> u32
-    ensures { result ≡ when b n }
-{
-    if b {
-        return n;
-    }
-    0
+// Why an input is refused. RULES, Refusals, numbers them; where there is too little room, the number that needs it is told too.
+#[derive(Clone, Copy, Debug, PartialEq, Eq)]
+pub enum Refusal {
+    Shape,
+    Count,
+    Measure,
+    Record,
+    Repeated,
+    Room(usize),
+    Full,
+    Uneven,
+    Stranger,
 }
 
-// The first of two refusals that is one.
-pub fn or_else(a: u32, b: u32) -> u32
-    ensures { result ≡ or_else a b }
-{
-    if a == 0 {
-        return b;
+impl Refusal {
+    // Its number.
+    pub fn number(self) -> u32
+        ensures { result ≡ number_of self }
+    {
+        match self {
+            Refusal::Shape => 1,
+            Refusal::Count => 2,
+            Refusal::Measure => 3,
+            Refusal::Record => 4,
+            Refusal::Repeated => 5,
+            Refusal::Room(_) => 6,
+            Refusal::Full => 7,
+            Refusal::Uneven => 8,
+            Refusal::Stranger => 9,
+        }
     }
-    a
+
+    // The number that needs room, which comes with 6 alone.
+    pub fn needed(self) -> usize
+        ensures { result ≡ needed_of self }
+    {
+        match self {
+            Refusal::Room(needed) => needed,
+            _ => 0,
+        }
+    }
+}
+
+// Refuses where the test holds. Tests follow one another by `?`, so the first that holds gives the refusal.
+pub fn refuse(b: bool, refusal: Refusal) -> Result<(), Refusal>
+    ensures { result ≡ answer_with (when b (number_of refusal)) (needed_of refusal) tt }
+{
+    if b {
+        return Err(refusal);
+    }
+    Ok(())
 }

@@ -1,5 +1,5 @@
 -- What the measured examples are made of.
-use Rattle.std.specs.Prelude.{◌≡◌, Bool, true, false, List, [], ◌∷◌, ◌++◌, ℕ, ◌-◌, length, replicate, Float}
+use Rattle.std.specs.Prelude.{◌≡◌, Bool, true, false, List, [], ◌∷◌, ◌++◌, ℕ, ◌-◌, length, replicate, Option, Result, Ok, Float}
 use Rattle.std.specs.Float.{binary64}
 use Rattle.std.specs.Float.Ieee.{round}
 use Rattle.floats.specs.Ops.{none}
@@ -10,14 +10,14 @@ use Rattle.sheet.specs.declared.Counts.{Counts}
 use Rattle.sheet.specs.declared.Line.{Line}
 use Rattle.sheet.specs.declared.Sheet.{Sheet}
 use Rattle.sheet.specs.Sheets.{blank_kind, blank_line, sheet_refusal}
-use Rattle.check_packing.specs.declared.Checked.{Checked}
 use Rattle.check_packing.specs.Check.{checked_of, cells_of}
 use Rattle.point_state.specs.declared.ExtremePointSet.{ExtremePointSet}
-use Rattle.point_state.specs.Fresh.{fresh_of}
+use Rattle.point_state.specs.Fresh.{fresh_state}
 use Rattle.point_place.specs.declared.Tried.{Tried}
 use Rattle.point_place.specs.Place.{tried_of}
-use Rattle.layer_fill.specs.declared.Placing.{Placing}
-use Rattle.layer_fill.specs.Fill.{opened, placed_best}
+use Rattle.domain.specs.declared.Refusal.{Refusal}
+use Rattle.layer_fill.specs.declared.LayerFill.{LayerFill}
+use Rattle.layer_fill.specs.Fill.{empty, placed_best, after_call}
 use Rattle.check_pair.specs.declared.Extent.{Extent}
 
 -- the float nearest to a divided by b
@@ -53,20 +53,26 @@ fixed = 2
 
 -- ---- extreme point_place: a fresh state, and a box tried in orientation 0
 abbrev pub fresh : Container → ExtremePointSet
-fresh c = (fresh_of c).set
+fresh c = fresh_state c
 
 abbrev pub try : ExtremePointSet → List Float → Tried
 try s size = tried_of s (kind fixed 1 size) 0 0
 
 -- ---- layer_fill: boxes of a kind one after the other, each in its best orientation
-abbrev pub first : Container → Kind → Placing
-first b k = placed_best (opened b).fill k 0
+abbrev pub first : Container → Kind → Result (Option LayerFill) Refusal
+first b k = placed_best (empty b) k 0
 
-abbrev pub second : Container → Kind → Placing
-second b k = placed_best (first b k).next k 1
+abbrev pub after_first : Container → Kind → LayerFill
+after_first b k = after_call (empty b) (first b k)
 
-abbrev pub third : Container → Kind → Placing
-third b k = placed_best (second b k).next k 2
+abbrev pub second : Container → Kind → Result (Option LayerFill) Refusal
+second b k = placed_best (after_first b k) k 1
+
+abbrev pub after_second : Container → Kind → LayerFill
+after_second b k = after_call (after_first b k) (second b k)
+
+abbrev pub third : Container → Kind → Result (Option LayerFill) Refusal
+third b k = placed_best (after_second b k) k 2
 
 -- ---- sheets as a call can hand them over, blank past what counts: kind 7 is a fixed 4-cube; line (7, instance) at x, index and bin 0
 abbrev pub seven : ℕ → Kind
@@ -103,7 +109,7 @@ lent = replicate 20 9
 -- the sheet is accepted, so many findings are told, and the cells hold these words and behind them what they held
 pub record Answered (s : Sheet) (found : ℕ) (cells : List ℕ) : Type 0 where
   pub accepted : sheet_refusal s ≡ 0
-  pub told : checked_of s lent ≡ record { refused = 0; count = found }
+  pub told : checked_of s lent ≡ Ok found
   pub written : cells_of s lent ≡ cells
 
 -- ---- check_pair: a box between two corners

@@ -2,23 +2,23 @@
 
 #![tactic(auto)]
 
-ghost use Rattle.std.specs.Prelude.{◌≡◌, ◌<◌};
+ghost use Rattle.std.specs.Prelude.{◌≡◌};
 ghost use Rattle.domain.specs.Refusals.{first_below};
+ghost use Rattle.domain.specs.Refusal.{answer_of};
 ghost use Rattle.sheet.specs.Sheets.{line_fault_in, sheet_refusal};
 ghost use Rattle.file_read.specs.Form.{lines_start, counts_of};
 ghost use Rattle.file_read.specs.Reading.{sheet_of};
 ghost use Rattle.file_read.specs.Records.{Readable};
 ghost use Rattle.file_accept.specs.Parts.{misplaced, kinds_refusal};
-ghost use Rattle.file_accept.specs.Accept.{refused_by, accept_of};
+ghost use Rattle.file_accept.specs.Accept.{accept_of};
 
+use domain::{Refusal, refuse};
 use file_read::records;
 use sheet::Counts;
 
-// The refusal that a file gets, 0 for none; how many records each section has, and where the lines start and end. All 0 but
-// the refusal where there is one.
+// How many records each section of an accepted file has, and where its lines start and end.
 #[derive(Clone, Copy)]
 pub struct Accepted {
-    pub refused: u32,
     pub kinds: usize,
     pub lines: usize,
     pub unplaced: usize,
@@ -26,30 +26,20 @@ pub struct Accepted {
     pub end: usize,
 }
 
-fn wide(x: u32) -> u64
-    ensures { (result ≡ x) × (result < 4294967296) }
-{
-    x as u64
-}
-
 // What the kinds are refused for: kind by kind, then their total. It cannot wrap: at most 64 numbers of 32 bits.
-fn kinds_refusal(f: &[u8], n: usize) -> u32
+fn kinds_refusal(f: &[u8], n: usize) -> Result<(), Refusal>
     requires { Readable f.now × (n ≡ (counts_of f.now).kinds) }
-    ensures { result ≡ kinds_refusal (sheet_of f.now) }
+    ensures { result ≡ answer_of (kinds_refusal (sheet_of f.now)) tt }
 {
     let mut ids = [0u32; domain::MOST_KINDS];
-    let mut r = 0;
-    let mut t: u64 = 0;
-    let mut k = 0;
-    while k < n {
+    let mut total = 0;
+    for k in 0..n {
         let kind = records::kind_in(f, k);
-        let id = kind.id;
-        r = domain::or_else(r, measures::kind_fault(kind, sheet::is_among(&ids, k, id)));
-        t += wide(kind.quantity);
-        ids[k] = id;
-        k += 1;
+        measures::kind_fault(kind, sheet::is_among(&ids, k, kind.id))?;
+        total += u64::from(kind.quantity);
+        ids[k] = kind.id;
     }
-    domain::or_else(r, domain::given(t > domain::MOST_BOXES as u64, 2))
+    refuse(total > domain::MOST_BOXES as u64, Refusal::Count)
 }
 
 fn is_misplaced(at: [f64; 3]) -> bool
@@ -59,70 +49,44 @@ fn is_misplaced(at: [f64; 3]) -> bool
 }
 
 // What the lines are refused for.
-fn lines_refusal(f: &[u8], start: usize, n: usize) -> u32
+fn lines_refusal(f: &[u8], start: usize, n: usize) -> Result<(), Refusal>
     requires { Readable f.now × ((start ≡ lines_start f.now) × (n ≡ (counts_of f.now).lines)) }
-    ensures { result ≡ first_below (line_fault_in (sheet_of f.now).lines) n }
+    ensures { result ≡ answer_of (first_below (line_fault_in (sheet_of f.now).lines) n) tt }
 {
     let mut bad = false;
-    let mut i = 0;
-    while i < n {
+    for i in 0..n {
         let line = records::line_in(f, start, i);
-        let at = line.at;
-        bad = bad | is_misplaced(at);
-        i += 1;
+        bad = bad | is_misplaced(line.at);
     }
-    domain::given(bad, 3)
+    refuse(bad, Refusal::Measure)
 }
 
 // What a file of the right shape with these counts, all within their bounds, is refused for.
-fn sheet_refusal(f: &[u8], many: Counts, start: usize) -> u32
+fn sheet_refusal(f: &[u8], many: Counts, start: usize) -> Result<(), Refusal>
     requires { Readable f.now × ((many ≡ counts_of f.now) × (start ≡ lines_start f.now)) }
-    ensures { result ≡ sheet_refusal (sheet_of f.now) }
+    ensures { result ≡ answer_of (sheet_refusal (sheet_of f.now)) tt }
 {
-    let n = many.kinds;
-    let m = many.lines;
-    let block = domain::given(measures::container_fault(records::container_in(f)), 3);
-    let kinds = kinds_refusal(f, n);
-    let lines = lines_refusal(f, start, m);
-    domain::or_else(block, domain::or_else(kinds, lines))
-}
-
-fn refused_by(n: u32) -> Accepted
-    ensures { result ≡ refused_by n }
-{
-    Accepted {
-        refused: n,
-        kinds: 0,
-        lines: 0,
-        unplaced: 0,
-        start: 0,
-        end: 0,
-    }
+    refuse(
+        measures::container_fault(records::container_in(f)),
+        Refusal::Measure,
+    )?;
+    kinds_refusal(f, many.kinds)?;
+    lines_refusal(f, start, many.lines)
 }
 
 // Tests a load file: its shape, then the refusals in their order.
-pub fn accept(f: &[u8]) -> Accepted
+pub fn accept(f: &[u8]) -> Result<Accepted, Refusal>
     ensures { result ≡ accept_of f.now }
 {
-    let s = records::sections_of(f);
-    if !s.right {
-        return refused_by(1);
-    }
-    let many = s.many;
-    if sheet::over_count(many) {
-        return refused_by(2);
-    }
-    let start = s.start;
-    let refused = sheet_refusal(f, many, start);
-    if refused != 0 {
-        return refused_by(refused);
-    }
-    Accepted {
-        refused: 0,
+    let sections = records::sections_of(f).ok_or(Refusal::Shape)?;
+    let many = sections.many;
+    refuse(sheet::over_count(many), Refusal::Count)?;
+    sheet_refusal(f, many, sections.start)?;
+    Ok(Accepted {
         kinds: many.kinds,
         lines: many.lines,
         unplaced: many.unplaced,
-        start,
-        end: s.end,
-    }
+        start: sections.start,
+        end: sections.end,
+    })
 }

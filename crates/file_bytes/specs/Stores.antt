@@ -1,7 +1,7 @@
 -- Stores into lent bytes: one after the other they are one longer store.
-use Rattle.std.specs.Prelude.{◌≡◌, refl, cond, List, [], ◌∷◌, ◌++◌, ℕ, suc, ◌+◌, ◌≤◌, ◌<◌, leb, length, set}
-use Rattle.std.proofs.Common.{◌∙◌, arith, add-zero, le-leb}
-use Rattle.std.proofs.lemmas.List.Edits.{sets}
+use Rattle.std.specs.Prelude.{◌≡◌, refl, cond, List, [], ◌∷◌, ◌++◌, ℕ, suc, ◌+◌, ◌≤◌, ◌<◌, leb, length, take, drop, set}
+use Rattle.std.proofs.Common.{◌∙◌, sym, append_assoc, arith, add-zero, le-leb}
+use Rattle.std.proofs.lemmas.List.Edits.{sets, sets-eq}
 use Rattle.std.proofs.Math.Seq.{length-sets}
 use Rattle.std.proofs.lemmas.Bool.{lt-leb}
 use Rattle.file_bytes.specs.Bytes.{bytes_of}
@@ -11,14 +11,14 @@ use Rattle.file_bytes.specs.Layout.{bytes_length}
 unfoldable pub stored : List ℕ → ℕ → List ℕ → List ℕ
 stored o at ws = cond (leb (at + length ws) (length o)) (sets o at ws) o
 
--- a number that has room is stored, and another is not
-pub has_room_lem : (w v : ℕ) (o : List ℕ) (at : ℕ) {o' : List ℕ} → at + w ≤ length o → o' ≡ sets o at (bytes_of w v) → o' ≡ stored o at (bytes_of w v)
+-- bytes that have room are stored in place of as many, and others are not
+pub has_room_lem : (ws o : List ℕ) (at : ℕ) → at + length ws ≤ length o → take at o ++ (ws ++ drop (at + length ws) o) ≡ stored o at ws
 unfolding stored
-has_room_lem w v o at h e = rw (bytes_length w v, le-leb (at + w) (length o) h) e
+has_room_lem ws o at h = rw (le-leb (at + length ws) (length o) h) (sym (sets-eq ws o at h ∙ append_assoc (take at o) ws _))
 
-pub no_room : (w v : ℕ) (o : List ℕ) (at : ℕ) → length o < at + w → o ≡ stored o at (bytes_of w v)
+pub no_room : (ws o : List ℕ) (at : ℕ) → length o < at + length ws → o ≡ stored o at ws
 unfolding stored
-no_room w v o at h = rw (bytes_length w v, lt-leb (at + w) (length o) h)
+no_room ws o at h = rw (lt-leb (at + length ws) (length o) h)
 
 -- o' is o with ws from `at` on
 pub record Put (o : List ℕ) (at : ℕ) (ws : List ℕ) (o' : List ℕ) : Type 0 where
@@ -44,15 +44,3 @@ put_none o at = record { cells = refl }
 
 pub put_length : {o o' : List ℕ} {at : ℕ} {ws : List ℕ} → Put o at ws o' → length o' ≡ length o
 put_length {o} {o'} {at} {ws} p = rw p.cells (length-sets o at ws)
-
--- cells one after the other
-pub two : (o : List ℕ) (at : ℕ) {a b a' b' : ℕ} → a ≡ a' → b ≡ b' → set (set o at a) (at + 1) b ≡ sets o at (a' ∷ b' ∷ [])
-two o at ea eb = let e : at + 1 ≡ suc at = omega arith in rw (ea, eb, e)
-
-pub four : (o : List ℕ) (at : ℕ) {a b c d a' b' c' d' : ℕ} → a ≡ a' → b ≡ b' → c ≡ c' → d ≡ d'
-    → set (set (set (set o at a) (at + 1) b) (at + 2) c) (at + 3) d ≡ sets o at (a' ∷ b' ∷ c' ∷ d' ∷ [])
-four o at ea eb ec ed =
-    let e₁ : at + 1 ≡ suc at = omega arith in
-    let e₂ : at + 2 ≡ suc (suc at) = omega arith in
-    let e₃ : at + 3 ≡ suc (suc (suc at)) = omega arith in
-    rw (ea, eb, ec, ed, e₁, e₂, e₃)

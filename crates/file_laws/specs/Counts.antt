@@ -20,7 +20,8 @@ use Rattle.file_read.specs.Form.{right_shape, counts_of}
 use Rattle.file_read.specs.Reading.{kind_from, line_from, kind_place, line_place, id_place, blank_kind, blank_line, kinds_by, lines_by, ids_by}
 use Rattle.file_read.specs.Reading.{container_from, sheet_by, refusal_by, sheet_of, refusal_of}
 use Rattle.file_write.specs.Writing.{kind_out, line_out, kinds_out, lines_out, ids_out, file_of}
-use Rattle.file_laws.specs.Tidy.{first_same, fault_same}
+use Rattle.domain.specs.Laws.{first_same}
+use Rattle.file_laws.specs.Tidy.{fault_same}
 
 -- each count of the one is at most that of the other
 pub record Within (m n : Most) : Type 0 where

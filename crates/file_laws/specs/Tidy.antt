@@ -1,8 +1,8 @@
 -- A sheet's cells past its counts hold nothing that a file says. `tidy` blanks them; neither the file of a sheet nor its refusal depends on them.
-use Rattle.std.specs.Prelude.{ℕ, zero, suc, ◌≤◌, ◌<◌, ◌≡◌, refl, ◌↔◌, List, get_or}
+use Rattle.std.specs.Prelude.{ℕ, ◌≤◌, ◌<◌, ◌≡◌, ◌↔◌, List, get_or}
 use Rattle.std.proofs.Common.{sym, ap, ◌∙◌, arith}
 use Rattle.domain.specs.Bounds.{most_kinds, most_lines, most_unplaced}
-use Rattle.domain.specs.Refusals.{first_below}
+use Rattle.domain.specs.Laws.{first_same}
 use Rattle.measures.specs.declared.Kind.{Kind}
 use Rattle.sheet.specs.declared.Sheet.{Sheet}
 use Rattle.sheet.specs.Sheets.{no_kind, no_line, kind_at, line_at, unplaced_at, same_id, kind_fault_in, quantity_of, line_fault_in, sheet_refusal}
@@ -13,7 +13,7 @@ use Rattle.lists.specs.Table.{filled, table}
 use Rattle.file_read.specs.Reading.{kind_from, line_from, kind_place, line_place, id_place, blank_kind, blank_line}
 use Rattle.file_read.specs.Reading.{kinds_by, lines_by, ids_by, kinds_of, lines_of, ids_of, sheet_of}
 use Rattle.file_write.specs.Writing.{kind_out, line_out, kinds_out, lines_out, ids_out, file_of}
-use Rattle.lists.specs.Below.{fewer, any_same, all_same, sum_same}
+use Rattle.lists.specs.Below.{any_same, all_same, sum_same}
 use Rattle.lists.specs.Table.{table_at, table_past, table_same, table_is}
 use Rattle.file_read.specs.Tables.{kinds_at, lines_at, ids_at}
 use Rattle.file_laws.specs.Typed.{Typed}
@@ -100,13 +100,7 @@ tidy_file s few =
       all_same (λ i. u32_out (unplaced_at (tidy s) i)) (λ i. u32_out (unplaced_at s i)) s.many.unplaced (λ i l. ap u32_out (tidy_id s few i l)),
     )
 
--- each fold sees only the first n
-pub first_same : (g h : ℕ → ℕ) (n : ℕ) → ((k : ℕ) → k < n → g k ≡ h k) → first_below g n ≡ first_below h n
-unfolding first_below
-first_same g h zero e = refl
-first_same g h (suc n) e = rw (first_same g h n (fewer n e), e n (omega arith))
-
--- and so does the fault of a kind, which looks at earlier ones
+-- a fold sees only the first n, and so does the fault of a kind, which looks at earlier ones
 pub fault_same : (a b : List Kind) (n : ℕ) → ((k : ℕ) → k < n → get_or a k no_kind ≡ get_or b k no_kind)
     → (k : ℕ) → k < n → kind_fault_in a k ≡ kind_fault_in b k
 unfolding kind_fault_in same_id

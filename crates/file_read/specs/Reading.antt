@@ -1,16 +1,17 @@
 -- What a load file says: its container, kinds, lines and unplaced ids, and the refusal that it gets. RULES: Load file, Refusals
-use Rattle.std.specs.Prelude.{ℕ, ◌+◌, ◌*◌, cond, not, List, [], ◌∷◌, eqb, get_or, Float}
+use Rattle.std.specs.Prelude.{ℕ, ◌+◌, ◌*◌, not, List, [], ◌∷◌, get_or, Float, Result}
 use Rattle.std.specs.Float.{binary64}
 use Rattle.std.specs.Float.Ieee.{of_bits}
 use Rattle.lists.specs.Table.{filled, table}
 use Rattle.domain.specs.Refusals.{when, or_else}
+use Rattle.domain.specs.declared.Refusal.{Refusal}
+use Rattle.domain.specs.Refusal.{answer_of}
 use Rattle.measures.specs.declared.Kind.{Kind}
 use Rattle.measures.specs.declared.Container.{Container}
 use Rattle.sheet.specs.declared.Line.{Line}
 use Rattle.sheet.specs.declared.Sheet.{Sheet}
-use Rattle.sheet.specs.Sheets.{Most, most_now, sheet_refusal_by, empty_sheet}
+use Rattle.sheet.specs.Sheets.{Most, most_now, sheet_refusal_by}
 pub use Rattle.sheet.specs.Sheets.{blank_kind, blank_line}
-use Rattle.file_read.specs.declared.Reading.{Reading}
 use Rattle.file_bytes.specs.Bytes.{u32_at}
 use Rattle.file_bytes.specs.Layout.{fields_at}
 use Rattle.file_read.specs.Form.{block_fields, kind_fields, line_fields, block_bytes, kind_bytes, line_bytes, id_bytes}
@@ -117,6 +118,6 @@ unfoldable pub refusal_of : List ℕ → ℕ
 unfolding or_else
 refusal_of f = refusal_by most_now f
 
--- the reading call's answer; a refused file reads as a sheet with nothing in it
-unfoldable pub read_of : List ℕ → Reading
-read_of f = record { refused = refusal_of f; sheet = cond (eqb (refusal_of f) 0) (sheet_of f) empty_sheet }
+-- the reading call's answer
+unfoldable pub read_of : List ℕ → Result Sheet Refusal
+read_of f = answer_of (refusal_of f) (sheet_of f)

@@ -1,11 +1,12 @@
 -- A file's sections and records out of its bytes, for every list of bytes; and of a file that can be read they are those of its sheet.
-use Rattle.std.specs.Prelude.{◌≡◌, refl, Bool, true, false, cond, List, ℕ, ◌+◌, ◌-◌, ◌*◌, ◌/◌, ◌<◌, ltb, leb, length}
-use Rattle.std.proofs.Common.{sym, ap, ◌∙◌, arith, le-ltb}
+use Rattle.std.specs.Prelude.{◌≡◌, refl, Bool, true, false, cond, List, ℕ, ◌+◌, ◌-◌, ◌*◌, ◌/◌, ◌<◌, ltb, leb, length, Option, Some, None}
+use Rattle.std.proofs.Common.{sym, arith, le-ltb}
 use Rattle.std.proofs.lemmas.Bool.{lt-leb}
 use Rattle.floats.specs.Ops.{none, nowhere}
 use Rattle.domain.specs.Bounds.{most_kinds, most_lines, most_unplaced}
 use Rattle.measures.specs.declared.Kind.{Kind}
 use Rattle.measures.specs.declared.Container.{Container}
+use Rattle.sheet.specs.declared.Counts.{Counts}
 use Rattle.sheet.specs.declared.Line.{Line}
 use Rattle.sheet.specs.Sheets.{over_count, kind_at, line_at, unplaced_at, blank_kind, blank_line}
 use Rattle.sheet.specs.Accepted.{Few, few}
@@ -19,11 +20,12 @@ use Rattle.file_read.specs.Tables.{kinds_at, lines_at, ids_at}
 -- ---- RULES: Load file
 
 -- a file of another shape has none
-abbrev pub no_sections : Sections
-no_sections = record { right = false; many = record { kinds = 0; lines = 0; unplaced = 0 }; start = 0; end = 0 }
+unfoldable pub sections_of : List ℕ → Option Sections
+sections_of f = cond (right_shape f) (Some (record { many = counts_of f; start = lines_start f; end = unplaced_start f })) None
 
-unfoldable pub sections_of : List ℕ → Sections
-sections_of f = cond (right_shape f) (record { right = true; many = counts_of f; start = lines_start f; end = unplaced_start f }) no_sections
+-- and no records
+unfoldable pub counts_in : List ℕ → Counts
+counts_in f = cond (right_shape f) (counts_of f) (record { kinds = 0; lines = 0; unplaced = 0 })
 
 abbrev pub blank_container : Container
 blank_container = record { size = nowhere; margin = none; spacing = none; limit = none }
@@ -48,35 +50,25 @@ unplaced_in f start i =
 
 -- ---- what the sections say
 
-pub sections_right : (f : List ℕ) → right_shape f ≡ true
-    → sections_of f ≡ record { right = true; many = counts_of f; start = lines_start f; end = unplaced_start f }
+pub sections_right : (f : List ℕ) → right_shape f ≡ true → sections_of f ≡ Some (record { many = counts_of f; start = lines_start f; end = unplaced_start f })
 unfolding sections_of
 sections_right f h = rw h
 
-pub wrong_sections : (f : List ℕ) → right_shape f ≡ false → no_sections ≡ sections_of f
+pub wrong_sections : (f : List ℕ) → right_shape f ≡ false → None ≡ sections_of f
 unfolding sections_of
 wrong_sections f h = rw h
 
 -- by the starts that were read
 pub right_sections : (f : List ℕ) (l u : ℕ) → right_shape f ≡ true → l ≡ lines_start f → u ≡ unplaced_start f
-    → ◌≡◌ {A = Sections}
+    → Some
     (record {
-      right = true;
       many = record { kinds = (l - block_bytes) / kind_bytes; lines = (u - l) / line_bytes; unplaced = (trailer f - u) / id_bytes };
       start = l;
       end = u;
     })
-    (sections_of f)
+    ≡ sections_of f
 unfolding counts_of
 right_sections f l u h el eu = rw (el, eu) (sym (sections_right f h))
-
-pub right_is : (f : List ℕ) → (sections_of f).right ≡ right_shape f
-unfolding sections_of
-right_is f = go (right_shape f) refl
-  where
-    go : (b : Bool) → right_shape f ≡ b → (sections_of f).right ≡ right_shape f
-    go true e = rw e
-    go false e = rw e
 
 pub record Right (f : List ℕ) (s : Sections) : Type 0 where
   pub shape : right_shape f ≡ true
@@ -84,13 +76,26 @@ pub record Right (f : List ℕ) (s : Sections) : Type 0 where
   pub start_is : s.start ≡ lines_start f
   pub end_is : s.end ≡ unplaced_start f
 
-pub right_says : (f : List ℕ) (s : Sections) → s ≡ sections_of f → s.right ≡ true → Right f s
-right_says f s e h =
-    let q : right_shape f ≡ true = sym (right_is f) ∙ sym (ap (λ (v : Sections). v.right) e) ∙ h in
-    rw (e ∙ sections_right f q) (record { shape = q; many_are = refl; start_is = refl; end_is = refl })
+pub right_says : (f : List ℕ) (s : Sections) → Some s ≡ sections_of f → Right f s
+right_says f s e = go (right_shape f) refl
+  where
+    go : (b : Bool) → right_shape f ≡ b → Right f s
+    go true h =
+        let q : s ≡ record { many = counts_of f; start = lines_start f; end = unplaced_start f } = cc (e, sections_right f h) in
+        rw q (record { shape = h; many_are = refl; start_is = refl; end_is = refl })
+    go false h = absurd (cc (e, wrong_sections f h))
 
-pub wrong_says : (f : List ℕ) (s : Sections) → s ≡ sections_of f → s.right ≡ false → right_shape f ≡ false
-wrong_says f s e h = sym (right_is f) ∙ sym (ap (λ (v : Sections). v.right) e) ∙ h
+pub wrong_says : (f : List ℕ) → None ≡ sections_of f → right_shape f ≡ false
+wrong_says f e = go (right_shape f) refl
+  where
+    go : (b : Bool) → right_shape f ≡ b → right_shape f ≡ false
+    go true h = absurd (cc (e, sections_right f h))
+    go false h = h
+
+-- the counts of a file of the right shape
+pub counts_right_in : (f : List ℕ) → right_shape f ≡ true → counts_in f ≡ counts_of f
+unfolding counts_in
+counts_right_in f h = rw h
 
 -- ---- of a file of the right shape with counts within their bounds, record k of the bytes is record k of the sheet
 

@@ -2,6 +2,7 @@
 // same widths, and the proofs hold them together.
 use file_bytes::{BYTE, FLOAT, HALF, WORD};
 
+// Stays: a constant for each field of each record, as one table of them by place would be read by number and name no field.
 // The container block.
 pub const BLOCK_WIDTH: usize = 0;
 
@@ -78,9 +79,9 @@ pub const TRAILER: usize = TRAILER_S + BYTE;
 // The number of the form, and the two bytes that end a load file.
 pub const FORM: u16 = 1;
 
-pub const LETTER_L: u8 = 76;
+pub const LETTER_L: u8 = b'L';
 
-pub const LETTER_S: u8 = 83;
+pub const LETTER_S: u8 = b'S';
 
 // The most bytes that a load file has.
 pub const MOST_BYTES: usize = 60000;

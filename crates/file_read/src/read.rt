@@ -1,8 +1,9 @@
 // A load file's records, and the sheet that they make.
-ghost use Rattle.std.specs.Prelude.{◌≡◌, ◌+◌, ◌*◌, ◌≤◌, length};
-ghost use Rattle.domain.specs.Bounds.{most_kinds, most_lines, most_unplaced};
+ghost use Rattle.std.specs.Prelude.{◌≡◌, ℕ, List, ◌+◌, ◌*◌, ◌≤◌, length};
+ghost use Rattle.lists.specs.Table.{table};
+ghost use Rattle.file_bytes.specs.Bytes.{u32_at};
 ghost use Rattle.file_read.specs.Form.{kind_bytes, line_bytes, id_bytes, lines_start, unplaced_start, counts_of};
-ghost use Rattle.file_read.specs.Reading.{container_from, kind_from, line_from, kind_place, kinds_of, lines_of, ids_of, sheet_of};
+ghost use Rattle.file_read.specs.Reading.{container_from, kind_from, line_from, sheet_of};
 ghost use Rattle.file_read.specs.Records.{Readable};
 
 use crate::{layout, le};
@@ -70,47 +71,67 @@ pub(crate) fn line_at(f: &[u8], p: usize) -> Line
     }
 }
 
-fn kinds_of(f: &[u8], n: usize) -> [Kind; domain::MOST_KINDS]
-    requires { (n ≤ most_kinds) × (kind_place n ≤ length f.now) }
-    ensures { result ≡ kinds_of f.now n }
-{
-    let blank = sheet::blank_kind();
-    let mut kinds = [blank; domain::MOST_KINDS];
-    let mut k = 0;
-    while k < n {
-        let kind = kind_at(f, layout::BLOCK + k * layout::KIND);
-        kinds[k] = kind;
-        k += 1;
-    }
-    kinds
+// A record of a load file: it has so many bytes, and is read where they are all there.
+trait Record: Copy {
+    ghost WIDTH: { ℕ };
+
+    ghost from: { List ℕ → ℕ → Self };
+
+    const WIDTH: usize;
+
+    fn read(f: &[u8], p: usize) -> Self
+        requires { p + WIDTH ≤ length f.now }
+        ensures { result ≡ from f.now p };
 }
 
-fn lines_of(f: &[u8], start: usize, n: usize) -> [Line; domain::MOST_LINES]
-    requires { (n ≤ most_lines) × (start + n * line_bytes ≤ length f.now) }
-    ensures { result ≡ lines_of f.now start n }
-{
-    let blank = sheet::blank_line();
-    let mut lines = [blank; domain::MOST_LINES];
-    let mut i = 0;
-    while i < n {
-        let line = line_at(f, start + i * layout::LINE);
-        lines[i] = line;
-        i += 1;
+impl Record for Kind {
+    ghost WIDTH = { kind_bytes };
+
+    ghost from = { kind_from };
+
+    const WIDTH: usize = layout::KIND;
+
+    fn read(f: &[u8], p: usize) -> Kind {
+        kind_at(f, p)
     }
-    lines
 }
 
-fn ids_of(f: &[u8], start: usize, n: usize) -> [u32; domain::MOST_UNPLACED]
-    requires { (n ≤ most_unplaced) × (start + n * id_bytes ≤ length f.now) }
-    ensures { result ≡ ids_of f.now start n }
-{
-    let mut ids = [0u32; domain::MOST_UNPLACED];
-    let mut i = 0;
-    while i < n {
-        ids[i] = file_bytes::u32_at(f, start + i * layout::ID);
-        i += 1;
+impl Record for Line {
+    ghost WIDTH = { line_bytes };
+
+    ghost from = { line_from };
+
+    const WIDTH: usize = layout::LINE;
+
+    fn read(f: &[u8], p: usize) -> Line {
+        line_at(f, p)
     }
-    ids
+}
+
+// An unplaced id.
+impl Record for u32 {
+    ghost WIDTH = { id_bytes };
+
+    ghost from = { u32_at };
+
+    const WIDTH: usize = layout::ID;
+
+    fn read(f: &[u8], p: usize) -> u32 {
+        le::word(f, p)
+    }
+}
+
+// The n records from `start` on in a table's first cells, the others blank.
+fn table_of<T: Record, const N: usize>(blank: T, f: &[u8], start: usize, n: usize) -> [T; N]
+    requires cells { n ≤ N }
+    requires within { start + n * T.WIDTH ≤ length f.now }
+    ensures { result ≡ table blank N (λ k. T.from f.now (start + k * T.WIDTH)) n }
+{
+    let mut records = [blank; N];
+    for k in 0..n {
+        records[k] = T::read(f, start + k * T::WIDTH);
+    }
+    records
 }
 
 // The sheet that a file of the right shape says, with counts within their bounds and these starts of the lines and the unplaced ids.
@@ -119,9 +140,9 @@ pub(crate) fn sheet_of(f: &[u8], many: Counts, start: usize, end: usize) -> Shee
     ensures { result ≡ sheet_of f.now }
 {
     let container = container_at(f);
-    let kinds = kinds_of(f, many.kinds);
-    let lines = lines_of(f, start, many.lines);
-    let unplaced = ids_of(f, end, many.unplaced);
+    let kinds = table_of(sheet::blank_kind(), f, layout::BLOCK, many.kinds);
+    let lines = table_of(sheet::blank_line(), f, start, many.lines);
+    let unplaced = table_of(0, f, end, many.unplaced);
     Sheet {
         many,
         container,

@@ -1,69 +1,65 @@
 // A file's sections and records, each read out of the lent bytes where it is used. Every call takes every input: what lies past the
 // end of the bytes is blank.
 ghost use Rattle.std.specs.Prelude.{◌≡◌};
-ghost use Rattle.file_read.specs.Records.{no_sections, sections_of, blank_container, container_in, kind_in, line_in, unplaced_in};
+ghost use Rattle.file_read.specs.Records.{sections_of, counts_in, blank_container, container_in, kind_in, line_in, unplaced_in};
 
 use crate::{layout, read, shape};
 use measures::{Container, Kind};
 use sheet::{Counts, Line};
 
-// Whether a file has the right shape; and where it has, how many records each section holds and where the lines start and end.
+// How many records each section of a file holds, and where its lines start and end.
 #[derive(Clone, Copy)]
 pub struct Sections {
-    pub right: bool,
     pub many: Counts,
     pub start: usize,
     pub end: usize,
 }
 
-fn no_sections() -> Sections
-    ensures { result ≡ no_sections }
-{
-    let many = Counts {
-        kinds: 0,
-        lines: 0,
-        unplaced: 0,
-    };
-    Sections {
-        right: false,
-        many,
-        start: 0,
-        end: 0,
-    }
-}
-
 // Reads the trailer, and tells what it says where the file has the right shape.
-pub fn sections_of(f: &[u8]) -> Sections
+pub fn sections_of(f: &[u8]) -> Option<Sections>
     ensures { result ≡ sections_of f.now }
 {
     let n = f.len();
     if n < layout::TRAILER {
-        return no_sections();
+        return None;
     }
     let p = n - layout::TRAILER;
-    let k = shape::size(file_bytes::u32_at(f, p + layout::TRAILER_KINDS));
-    let l = shape::size(file_bytes::u32_at(f, p + layout::TRAILER_LINES));
-    let u = shape::size(file_bytes::u32_at(f, p + layout::TRAILER_UNPLACED));
-    let t = shape::size(file_bytes::u32_at(f, p + layout::TRAILER_START));
+    let k = file_bytes::u32_at(f, p + layout::TRAILER_KINDS) as usize;
+    let l = file_bytes::u32_at(f, p + layout::TRAILER_LINES) as usize;
+    let u = file_bytes::u32_at(f, p + layout::TRAILER_UNPLACED) as usize;
+    let t = file_bytes::u32_at(f, p + layout::TRAILER_START) as usize;
     let form = file_bytes::u16_at(f, p + layout::TRAILER_FORM);
     let a = file_bytes::byte_at(f, p + layout::TRAILER_L);
     let b = file_bytes::byte_at(f, p + layout::TRAILER_S);
     if !shape::is_placed(n, k, l, u, t, form, a, b) {
-        return no_sections();
+        return None;
     }
     if !shape::is_whole(l, u, t) {
-        return no_sections();
+        return None;
     }
     let many = Counts {
         kinds: (l - layout::BLOCK) / layout::KIND,
         lines: (u - l) / layout::LINE,
         unplaced: (p - u) / layout::ID,
     };
-    Sections {
-        right: true,
+    Some(Sections {
         many,
         start: l,
         end: u,
+    })
+}
+
+// How many records each section of a file holds; none where it has not the right shape.
+pub fn counts_in(f: &[u8]) -> Counts
+    ensures { result ≡ counts_in f.now }
+{
+    match sections_of(f) {
+        Some(sections) => sections.many,
+        None => Counts {
+            kinds: 0,
+            lines: 0,
+            unplaced: 0,
+        },
     }
 }
 

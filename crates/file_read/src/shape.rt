@@ -4,12 +4,6 @@ ghost use Rattle.file_read.specs.Form.{trailer_bytes, block_bytes, placed, whole
 
 use crate::layout::{BLOCK, FORM, ID, KIND, LETTER_L, LETTER_S, LINE, MOST_BYTES, TRAILER};
 
-pub(crate) fn size(x: u32) -> usize
-    ensures { result ≡ x }
-{
-    x as usize
-}
-
 pub(crate) fn is_placed(
     n: usize,
     k: usize,
@@ -24,17 +18,19 @@ pub(crate) fn is_placed(
     ensures { result ≡ placed n k l u t form a b }
 {
     (n <= MOST_BYTES)
-        & ((k == BLOCK)
-            & ((k <= l)
-                & ((l <= u)
-                    & ((u <= t)
-                        & ((t == n - TRAILER)
-                            & ((form == FORM) & ((a == LETTER_L) & (b == LETTER_S))))))))
+        & (k == BLOCK)
+        & (k <= l)
+        & (l <= u)
+        & (u <= t)
+        & (t == n - TRAILER)
+        & (form == FORM)
+        & (a == LETTER_L)
+        & (b == LETTER_S)
 }
 
 pub(crate) fn is_whole(l: usize, u: usize, t: usize) -> bool
     requires { (block_bytes ≤ l) × ((l ≤ u) × (u ≤ t)) }
     ensures { result ≡ whole l u t }
 {
-    ((l - BLOCK) % KIND == 0) & (((u - l) % LINE == 0) & ((t - u) % ID == 0))
+    ((l - BLOCK) % KIND == 0) & ((u - l) % LINE == 0) & ((t - u) % ID == 0)
 }

@@ -1,25 +1,23 @@
 -- What the stores of a planned sheet give together, and the answer in each case.
-use Rattle.std.specs.Prelude.{ℕ, suc, ◌+◌, ◌*◌, ◌≤◌, ◌<◌, ◌≡◌, refl, List, [], ◌∷◌, ◌++◌, get_or, set, ltb}
+use Rattle.std.specs.Prelude.{ℕ, suc, ◌+◌, ◌≤◌, ◌<◌, ◌≡◌, refl, List, [], ◌∷◌, ◌++◌, get_or, set, drop, ltb, Result}
 use Rattle.std.proofs.Common.{sym, ◌∙◌, zero-add, arith, length-append, take-suc, length-take-le}
-use Rattle.std.proofs.Math.Bool.{true, false}
+use Rattle.std.proofs.Math.Bool.{false}
 use Rattle.std.proofs.Math.ListN.{length}
 use Rattle.std.proofs.Math.Seq.{sets-eq}
-use Rattle.std.proofs.Math.Dec.{leb}
-use borrow.Author.Tests.{le-leb, lt-leb, lt-ltb, le-ltb, ltb-false}
+use borrow.Author.Tests.{ltb-false}
 use Rattle.lists.specs.Bools.{or_left, or_right}
+use Rattle.domain.specs.declared.Refusal.{Refusal}
 use Rattle.domain.specs.Bounds.{most_kinds, most_lines}
 use Rattle.sheet.specs.declared.Counts.{Counts}
 use Rattle.sheet.specs.Accepted.{Few}
 use Rattle.file_bytes.specs.Bytes.{part}
 use Rattle.file_bytes.specs.Stores.{Put, then}
-use Rattle.file_read.specs.Form.{line_bytes}
-use Rattle.file_write.specs.declared.Written.{Written}
-use Rattle.file_write.specs.Writing.{line_out, ids_out, trailer_out, lines_from, unplaced_from, trailer_from, file_length}
-use Rattle.file_write.specs.Stores.{line_length, all_length, ids_length, trailer_length}
-use Rattle.sheet.specs.Columns.{Columns, column_line}
-use Rattle.file_write.specs.Planned.{columns_out, plan_out, over_counts, over_plan, plan_written, plan_after}
+use Rattle.file_write.specs.Writing.{lines_out, ids_out, trailer_out, lines_from, unplaced_from, trailer_from, file_length}
+use Rattle.file_write.specs.Stores.{lines_length, ids_length, trailer_length}
+use Rattle.sheet.specs.declared.Line.{Line}
+use Rattle.file_write.specs.Planned.{plan_out, over_counts, plan_written, plan_after}
 
--- the counts that the columns hold
+-- the counts that there may be
 pub record Holds (m : Counts) : Type 0 where
   pub kinds : m.kinds ≤ most_kinds
   pub lines : m.lines ≤ most_lines
@@ -39,18 +37,15 @@ plan_few m h = record { kinds = h.kinds; lines = h.lines; unplaced = omega arith
 
 -- ---- lengths
 
-pub columns_length : (c : Columns) (n : ℕ) → length (columns_out c n) ≡ n * line_bytes
-unfolding columns_out
-columns_length c = all_length (λ i. line_out (column_line c i)) line_bytes (λ i. line_length (column_line c i))
-
 pub head_length : (order : List ℕ) (n : ℕ) → n ≤ length order → length (part order 0 n) ≡ n
 head_length order n h = length-take-le n order h
 
-pub plan_length : (order : List ℕ) (m : Counts) (c : Columns) (left : List ℕ) → lines_from m ≤ length order → length (plan_out order m c left) ≡ file_length m
+pub plan_length : (order : List ℕ) (m : Counts) (lines : List Line) (left : List ℕ) → lines_from m ≤ length order
+    → length (plan_out order m lines left) ≡ file_length m
 unfolding plan_out
-plan_length order m c left h =
+plan_length order m lines left h =
     simp length-append
-    (rw (head_length order (lines_from m) h, columns_length c m.lines, ids_length left m.unplaced, trailer_length m) (omega arith))
+    (rw (head_length order (lines_from m) h, lines_length lines m.lines, ids_length left m.unplaced, trailer_length m) (omega arith))
 
 -- ---- a byte more of the head
 pub head_more : (order : List ℕ) (i : ℕ) → i < length order → part order 0 i ++ (get_or order i 0 ∷ []) ≡ part order 0 (suc i)
@@ -64,50 +59,23 @@ head_step {o} {o₁} order i h p =
     rw (head_more order i h) at (then p (head_length order i (omega arith)) e q)
 
 -- the parts one after the other are the file
-pub plan_put : (order : List ℕ) (m : Counts) (c : Columns) (left : List ℕ) {o o₁ o₂ o₃ o₄ : List ℕ} → lines_from m ≤ length order
-    → Put o 0 (part order 0 (lines_from m)) o₁ → Put o₁ (lines_from m) (columns_out c m.lines) o₂ → Put o₂ (unplaced_from m) (ids_out left m.unplaced) o₃
-    → Put o₃ (trailer_from m) (trailer_out m) o₄ → Put o 0 (plan_out order m c left) o₄
+pub plan_put : (order : List ℕ) (m : Counts) (lines : List Line) (left : List ℕ) {o o₁ o₂ o₃ o₄ : List ℕ} → lines_from m ≤ length order
+    → Put o 0 (part order 0 (lines_from m)) o₁ → Put o₁ (lines_from m) (lines_out lines m.lines) o₂ → Put o₂ (unplaced_from m) (ids_out left m.unplaced) o₃
+    → Put o₃ (trailer_from m) (trailer_out m) o₄ → Put o 0 (plan_out order m lines left) o₄
 unfolding plan_out
-plan_put order m c left l head lines ids end =
+plan_put order m lines left l head body ids end =
     then head (head_length order (lines_from m) l) (omega arith)
-    (then lines (columns_length c m.lines) refl (then ids (ids_length left m.unplaced) refl end))
+    (then body (lines_length lines m.lines) refl (then ids (ids_length left m.unplaced) refl end))
 
 -- ---- the answer in each case
 
-pub record Told (order : List ℕ) (m : Counts) (c : Columns) (left out out' : List ℕ) (w : Written) : Type 0 where
-  pub answer : w ≡ plan_written (length order) m c (length out)
-  pub bytes : out' ≡ plan_after order m c left out
+pub record Told (order : List ℕ) (m : Counts) (lines : List Line) (left out out' : List ℕ) (w : Result ℕ Refusal) : Type 0 where
+  pub answer : w ≡ plan_written (length order) m lines (length out)
+  pub bytes : out' ≡ plan_after order m lines left out
 
-module _ (order : List ℕ) (m : Counts) (c : Columns) (left out : List ℕ) where
-  pub told_over : over_plan m c ≡ true → Told order m c left out out (record { refused = 2; length = 0 })
-  unfolding plan_after plan_written
-  told_over h = record { answer = rw h; bytes = rw h }
-
-  pub told_short : over_plan m c ≡ false → length order < lines_from m → Told order m c left out out (record { refused = 1; length = 0 })
-  unfolding plan_after plan_written
-  told_short h l = let e = lt-ltb (length order) (lines_from m) l in record { answer = rw (h, e); bytes = rw (h, e) }
-
-  pub told_room : (n : ℕ) → over_plan m c ≡ false → lines_from m ≤ length order → n ≡ file_length m → length out < n
-      → Told order m c left out out (record { refused = 6; length = n })
-  unfolding plan_after plan_written
-  told_room n h l e r =
-      let a = le-ltb (length order) (lines_from m) l in
-      let b : leb (file_length m) (length out) ≡ false = lt-leb (file_length m) (length out) (rw e at r) in
-      rw e (record { answer = rw (h, a, b); bytes = rw (h, a, b) })
-
-  pub told_written : (n : ℕ) (out' : List ℕ) → over_plan m c ≡ false → lines_from m ≤ length order → n ≡ file_length m → n ≤ length out
-      → Put out 0 (plan_out order m c left) out'
-      → Told order m c left out out' (record { refused = 0; length = n })
-  unfolding plan_after plan_written
-  told_written n out' h l e r p =
-      let a = le-ltb (length order) (lines_from m) l in
-      let b : leb (file_length m) (length out) ≡ true = le-leb (file_length m) (length out) (rw e at r) in
-      let k = plan_length order m c left l in
-      let q : file_length m ≤ length out = rw e at r in
-      rw e
-      (record {
-        answer = rw (h, a, b);
-        bytes =
-            rw (h, a, b)
-            (p.cells ∙ sets-eq (plan_out order m c left) out 0 (rw k (omega arith)) ∙ rw (k, zero-add));
-      })
+-- the file stored is the file that the answer tells
+pub plan_stored : (order : List ℕ) (m : Counts) (lines : List Line) (left out out' : List ℕ) → lines_from m ≤ length order → file_length m ≤ length out
+    → Put out 0 (plan_out order m lines left) out' → out' ≡ plan_out order m lines left ++ drop (file_length m) out
+plan_stored order m lines left out out' l r p =
+    let k = plan_length order m lines left l in
+    p.cells ∙ sets-eq (plan_out order m lines left) out 0 (rw k (omega arith)) ∙ rw (k, zero-add)

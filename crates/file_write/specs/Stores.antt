@@ -1,6 +1,7 @@
 -- The lengths of what is written, and a whole file stored.
-use Rattle.std.specs.Prelude.{◌≡◌, List, ◌++◌, ℕ, zero, suc, ◌*◌, ◌≤◌, length, get_or, drop}
-use Rattle.std.proofs.Common.{◌∙◌, arith, zero-add, length-append}
+use Rattle.std.specs.Prelude.{◌≡◌, List, ◌++◌, ℕ, zero, suc, ◌*◌, ◌≤◌, length, get_or, take, drop}
+use Rattle.std.proofs.Common.{◌∙◌, ap, arith, length-take-le, zero-add, length-append}
+use Rattle.std.proofs.lemmas.List.{get_or-take}
 use Rattle.std.proofs.lemmas.List.Edits.{sets-eq}
 use Rattle.measures.specs.declared.Kind.{Kind}
 use Rattle.measures.specs.declared.Container.{Container}
@@ -8,7 +9,7 @@ use Rattle.sheet.specs.declared.Counts.{Counts}
 use Rattle.sheet.specs.declared.Line.{Line}
 use Rattle.sheet.specs.declared.Sheet.{Sheet}
 use Rattle.sheet.specs.Sheets.{no_kind, no_line}
-use Rattle.lists.specs.Below.{all_below}
+use Rattle.lists.specs.Below.{all_below, all_same}
 use Rattle.file_bytes.specs.Bytes.{word, u32_out}
 use Rattle.file_bytes.specs.Layout.{bytes_length, fields_length}
 use Rattle.file_bytes.specs.Stores.{Put}
@@ -29,6 +30,9 @@ pub line_length : (l : Line) → length (line_out l) ≡ line_bytes
 unfolding line_out
 line_length l = fields_length line_fields (line_numbers l)
 
+pub id_length : (id : ℕ) → length (u32_out id) ≡ id_bytes
+id_length id = bytes_length word id
+
 pub trailer_length : (m : Counts) → length (trailer_out m) ≡ trailer_bytes
 unfolding trailer_out
 trailer_length m = fields_length trailer_fields (trailer_numbers m)
@@ -38,6 +42,11 @@ pub all_length : (g : ℕ → List ℕ) (w : ℕ) → ((k : ℕ) → length (g k
 unfolding all_below
 all_length g w h zero = omega arith
 all_length g w h (suc n) = simp length-append (rw (all_length g w h n, h n) (omega arith))
+
+-- the records of a list's first cells
+pub first_records : {A : Type 0} (bytes : A → List ℕ) (d : A) (xs : List A) (n : ℕ) → n ≤ length xs
+    → all_below (λ k. bytes (get_or (take n xs) k d)) (length (take n xs)) ≡ all_below (λ k. bytes (get_or xs k d)) n
+first_records bytes d xs n h = rw (length-take-le n xs h) (all_same _ _ n (λ k l. ap bytes (get_or-take n xs k d l)))
 
 pub kinds_length : (kinds : List Kind) (n : ℕ) → length (kinds_out kinds n) ≡ n * kind_bytes
 unfolding kinds_out

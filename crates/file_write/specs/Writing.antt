@@ -1,15 +1,16 @@
 -- How a sheet is written, and the writing call's answer and effect. RULES: Load file, Lent memory
-use Rattle.std.specs.Prelude.{ℕ, ◌+◌, ◌*◌, cond, ◌&&◌, List, [], ◌∷◌, ◌++◌, eqb, leb, length, drop, get_or, Float}
+use Rattle.std.specs.Prelude.{◌≡◌, ℕ, ◌+◌, ◌*◌, cond, List, [], ◌∷◌, ◌++◌, length, drop, get_or, Float, Result, Ok, Err, is_ok}
 use Rattle.std.specs.Float.{binary64}
 use Rattle.std.specs.Float.Ieee.{to_bits}
 use Rattle.floats.specs.Ops.{x, y, z}
+use Rattle.domain.specs.declared.Refusal.{Refusal}
+use Rattle.domain.specs.Refusal.{refused_or, with_room}
 use Rattle.measures.specs.declared.Kind.{Kind}
 use Rattle.measures.specs.declared.Container.{Container}
 use Rattle.sheet.specs.declared.Counts.{Counts}
 use Rattle.sheet.specs.declared.Line.{Line}
 use Rattle.sheet.specs.declared.Sheet.{Sheet}
 use Rattle.sheet.specs.Sheets.{no_kind, no_line, sheet_refusal}
-use Rattle.file_write.specs.declared.Written.{Written}
 use Rattle.lists.specs.Below.{all_below}
 use Rattle.file_bytes.specs.Bytes.{u32_out}
 use Rattle.file_bytes.specs.Layout.{fields_out}
@@ -84,13 +85,18 @@ abbrev pub file_length : Counts → ℕ
 file_length m = trailer_from m + trailer_bytes
 
 -- ---- the writing call: refused as the sheet is, then 6 with the length needed where the lent bytes are fewer
-unfoldable pub written_of : Sheet → ℕ → Written
-written_of s lent =
-    cond (eqb (sheet_refusal s) 0)
-    (cond (leb (file_length s.many) lent) (record { refused = 0; length = file_length s.many }) (record { refused = 6; length = file_length s.many }))
-    (record { refused = sheet_refusal s; length = 0 })
+unfoldable pub written_of : Sheet → ℕ → Result ℕ Refusal
+written_of s lent = refused_or (sheet_refusal s) (with_room lent (file_length s.many) (file_length s.many))
 
 -- the lent bytes after it: the file and then the old bytes, or all as it was
 unfoldable pub bytes_after : Sheet → List ℕ → List ℕ
-bytes_after s out =
-    cond (eqb (sheet_refusal s) 0 && leb (file_length s.many) (length out)) (file_of s ++ drop (file_length s.many) out) out
+bytes_after s out = cond (is_ok (written_of s (length out))) (file_of s ++ drop (file_length s.many) out) out
+
+-- a refusal leaves them as they were
+pub bytes_stay : (s : Sheet) (out : List ℕ) (r : Refusal) → Err r ≡ written_of s (length out) → out ≡ bytes_after s out
+unfolding bytes_after
+bytes_stay s out r e = rw (← e)
+
+pub bytes_written : (s : Sheet) (out : List ℕ) (n : ℕ) → Ok n ≡ written_of s (length out) → file_of s ++ drop (file_length s.many) out ≡ bytes_after s out
+unfolding bytes_after
+bytes_written s out n e = rw (← e)

@@ -1,5 +1,5 @@
 -- The worked example, by computation, and its neighbours: an unknown kind, a length with a fraction, one that divides with a rest, and the bound.
-use Rattle.std.specs.Prelude.{◌≡◌, ℕ, ◌-◌, List, [], ◌∷◌, ◌++◌, replicate, refl, Float}
+use Rattle.std.specs.Prelude.{◌≡◌, ℕ, ◌-◌, List, [], ◌∷◌, ◌++◌, replicate, refl, Float, Ok, Err}
 use Rattle.std.specs.Float.{binary64}
 use Rattle.std.specs.Float.Ieee.{of_bits, to_bits, of_int, lt, le, eq, neg, to_unsigned}
 use Rattle.floats.specs.Ops.{none}
@@ -11,7 +11,8 @@ use Rattle.measures.specs.Faults.{kind_fault, container_fault}
 use Rattle.sheet.specs.declared.Line.{Line}
 use Rattle.sheet.specs.declared.Sheet.{Sheet}
 use Rattle.sheet.specs.Sheets.{no_kind, no_line, same_id, kind_fault_in, quantity_of, line_fault, line_fault_in, sheet_refusal}
-use Rattle.fill_thousand.specs.declared.Filled.{Filled}
+use Rattle.domain.specs.declared.Refusal.TheVariants.{Uneven}
+use Rattle.domain.specs.Refusal.{answer_with}
 use Rattle.fill_thousand.specs.Sides.{whole_or_none, side_of}
 use Rattle.fill_thousand.specs.Fill.{uneven, uneven_kind, fill_refusal, solid_of, solid_named, solid_if, line_volume, per_thousand, fill_of}
 
@@ -37,19 +38,15 @@ four_and_a_half = of_bits binary64 0x4012000000000000
 abbrev both : List Line
 both = placed 7 none ∷ placed 7 four_and_a_half ∷ []
 
--- a sheet's answer
-abbrev filled : ℕ → ℕ → Filled
-filled refused fill = record { refused = refused; fill = fill }
-
 -- two such cubes in a cube of 10 fill 128 of a thousand. Below it: one line of the two unknown; then widths of 4.5, 100, 10,000 and 10,001
 pub worked :
-    (fill_of (loaded (whole 10) both 2) ≡ filled 0 128)
-    × (fill_of (loaded (whole 10) (placed 8 none ∷ placed 7 four_and_a_half ∷ []) 2) ≡ filled 0 64)
-    × (fill_of (loaded four_and_a_half both 2) ≡ filled 8 0)
-    × (fill_of (loaded (whole 100) both 2) ≡ filled 0 12)
-    × (fill_of (loaded (whole 10000) both 2) ≡ filled 0 0)
-    × (fill_of (loaded (whole 10001) both 2) ≡ filled 8 0)
-unfolding fill_of fill_refusal sheet_refusal or_else container_fault first_below kind_fault_in kind_fault any_below same_id sum_below quantity_of
+    (fill_of (loaded (whole 10) both 2) ≡ Ok 128)
+    × (fill_of (loaded (whole 10) (placed 8 none ∷ placed 7 four_and_a_half ∷ []) 2) ≡ Ok 64)
+    × (fill_of (loaded four_and_a_half both 2) ≡ Err Uneven)
+    × (fill_of (loaded (whole 100) both 2) ≡ Ok 12)
+    × (fill_of (loaded (whole 10000) both 2) ≡ Ok 0)
+    × (fill_of (loaded (whole 10001) both 2) ≡ Err Uneven)
+unfolding fill_of answer_with fill_refusal sheet_refusal or_else container_fault first_below kind_fault_in kind_fault any_below same_id sum_below quantity_of
     line_fault_in line_fault uneven uneven_kind side_of whole_or_none per_thousand solid_of solid_named solid_if line_volume of_bits to_bits of_int lt le eq
     neg to_unsigned
 worked = (refl, refl, refl, refl, refl, refl)

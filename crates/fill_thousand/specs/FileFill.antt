@@ -1,26 +1,60 @@
 -- The fill per thousand of a load file: its refusal, or the fill of the sheet that it says. RULES: Fill per thousand
-use Rattle.std.specs.Prelude.{◌≡◌, ℕ, Bool, cond, ◌||◌, List, ◌==◌, ◌≢◌}
-use Rattle.std.proofs.Common.{ne_eqb}
-use Rattle.lists.specs.Below.{any_below}
+use Rattle.std.specs.Prelude.{◌≡◌, refl, ℕ, zero, suc, ◌<◌, Bool, true, false, cond, ◌||◌, List, ◌==◌, Result, Ok, Err}
+use Rattle.std.proofs.Common.{arith, ne_eqb}
+use Rattle.lists.specs.Below.{any_below, any_none}
+use Rattle.domain.specs.declared.Refusal.{Refusal}
+use Rattle.domain.specs.declared.Refusal.TheVariants.{Uneven}
 use Rattle.domain.specs.Refusals.{when}
+use Rattle.domain.specs.Refusal.{answer_of, answer_with, refused_as, no_number}
 use Rattle.file_read.specs.Reading.{sheet_of, refusal_of}
 use Rattle.file_read.specs.Refusal.{sheet_sound}
-use Rattle.fill_thousand.specs.declared.Filled.{Filled}
-use Rattle.fill_thousand.specs.Fill.{uneven, uneven_kind, fill_refusal, fill_of}
+use Rattle.fill_thousand.specs.Fill.{uneven, uneven_kind, fill_refusal, per_thousand}
 use Rattle.fill_thousand.specs.FillLaws.{lengths_last}
 
-unfoldable pub file_fill : List ℕ → Filled
-file_fill f = cond (refusal_of f == 0) (fill_of (sheet_of f)) (record { refused = refusal_of f; fill = 0 })
+unfoldable pub file_refusal : List ℕ → ℕ
+file_refusal f = cond (refusal_of f == 0) (fill_refusal (sheet_of f)) (refusal_of f)
 
-pub file_refused : (f : List ℕ) (r : ℕ) → refusal_of f ≡ r → (r ≢ 0) → ◌≡◌ {A = Filled} (record { refused = r; fill = 0 }) (file_fill f)
-unfolding file_fill
-file_refused f r e n = rw (e, ne_eqb r 0 n)
+unfoldable pub file_fill : List ℕ → Result ℕ Refusal
+file_fill f = answer_of (file_refusal f) (per_thousand (sheet_of f))
 
-pub file_filled : (f : List ℕ) (x : Filled) → refusal_of f ≡ 0 → x ≡ fill_of (sheet_of f) → x ≡ file_fill f
-unfolding file_fill
-file_filled f x e h = rw e h
+pub file_refused : {A : Type 0} (f : List ℕ) (v : A) (r : Refusal) → Err r ≡ answer_of (refusal_of f) v → Err r ≡ file_fill f
+unfolding file_fill file_refusal answer_with
+file_refused f v r e = go (refusal_of f) refl e
+  where
+    go : (n : ℕ) → refusal_of f ≡ n → Err r ≡ answer_of n v → Err r ≡ file_fill f
+    go zero k h = absurd (cc)
+    go (suc n) k h = rw (k, ne_eqb (suc n) 0 (λ q. omega arith)) (refused_as (suc n) 0 v (per_thousand (sheet_of f)) r h)
 
 -- past the file's own refusal the lengths decide
 pub lengths_decide : (f : List ℕ) (b : Bool) → refusal_of f ≡ 0
     → b ≡ (uneven (sheet_of f).container.size || any_below (uneven_kind (sheet_of f).kinds) (sheet_of f).many.kinds) → when b 8 ≡ fill_refusal (sheet_of f)
 lengths_decide f b h e = rw e (lengths_last (sheet_of f) (sheet_sound f h))
+
+pub file_uneven : (f : List ℕ) (r : Refusal) → refusal_of f ≡ 0
+    → (uneven (sheet_of f).container.size || any_below (uneven_kind (sheet_of f).kinds) (sheet_of f).many.kinds) ≡ true → r ≡ Uneven → Err r ≡ file_fill f
+unfolding file_fill file_refusal answer_with
+file_uneven f r h e k = rw (h, ← (lengths_decide f true h (rw e refl)), k) refl
+
+pub file_filled : (f : List ℕ) (v : ℕ) → refusal_of f ≡ 0 → fill_refusal (sheet_of f) ≡ 0 → v ≡ per_thousand (sheet_of f) → Ok v ≡ file_fill f
+unfolding file_fill file_refusal
+file_filled f v h k e = rw (h, e) (no_number (fill_refusal (sheet_of f)) 0 (per_thousand (sheet_of f)) k)
+
+-- ---- what a test of lengths that was asked says
+
+pub uneven_only : {A : Type 0} (b : Bool) (v : A) (r : Refusal) → Err r ≡ answer_of (when b 8) v → (b ≡ true) × (r ≡ Uneven)
+unfolding answer_with
+uneven_only true v r e = (refl, cc)
+uneven_only false v r e = absurd (cc)
+
+pub even_only : {A : Type 0} (b : Bool) (v u : A) → Ok u ≡ answer_of (when b 8) v → b ≡ false
+unfolding answer_with
+even_only true v u e = absurd (cc)
+even_only false v u e = refl
+
+-- one of some is one of them
+pub any_one : (p : ℕ → Bool) (n k : ℕ) → k < n → p k ≡ true → any_below p n ≡ true
+any_one p n k l e = go (any_below p n) refl
+  where
+    go : (b : Bool) → any_below p n ≡ b → any_below p n ≡ true
+    go true h = h
+    go false h = absurd (cc (any_none p n k h l))

@@ -1,13 +1,14 @@
 -- The fill per thousand of a sheet, in whole numbers. RULES: Fill per thousand
-use Rattle.std.specs.Prelude.{ℕ, ◌*◌, ◌/◌, Bool, cond, ◌||◌, List, get_or, ◌==◌, slice_index_or, Float}
+use Rattle.std.specs.Prelude.{ℕ, ◌*◌, ◌/◌, Bool, ◌||◌, List, get_or, ◌==◌, slice_index_or, Float, Result}
 use Rattle.floats.specs.Ops.{x, y, z}
 use Rattle.lists.specs.Below.{any_below, sum_below}
+use Rattle.domain.specs.declared.Refusal.{Refusal}
 use Rattle.domain.specs.Refusals.{when, or_else}
+use Rattle.domain.specs.Refusal.{answer_of}
 use Rattle.measures.specs.declared.Kind.{Kind}
 use Rattle.sheet.specs.declared.Line.{Line}
 use Rattle.sheet.specs.declared.Sheet.{Sheet}
 use Rattle.sheet.specs.Sheets.{no_kind, no_line, sheet_refusal}
-use Rattle.fill_thousand.specs.declared.Filled.{Filled}
 use Rattle.fill_thousand.specs.Sides.{most_side, side_of}
 
 -- ---- 8: a length of the container or of a kind is no whole number from 1 to 10,000
@@ -48,8 +49,5 @@ line_volume kinds m lines i = sum_below (solid_if kinds (get_or lines i no_line)
 unfoldable pub per_thousand : Sheet → ℕ
 per_thousand s = sum_below (line_volume s.kinds s.many.kinds s.lines) s.many.lines * 1000 / solid_of s.container.size
 
-unfoldable pub fill_of : Sheet → Filled
-fill_of s =
-    cond (fill_refusal s == 0)
-    (record { refused = 0; fill = per_thousand s })
-    (record { refused = fill_refusal s; fill = 0 })
+unfoldable pub fill_of : Sheet → Result ℕ Refusal
+fill_of s = answer_of (fill_refusal s) (per_thousand s)

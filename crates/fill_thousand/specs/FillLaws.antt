@@ -1,6 +1,6 @@
 -- What the refusal of a fill says of its sheet, and the answer in either case.
 use Rattle.std.specs.Prelude.{◌≡◌, ℕ, zero, suc, ◌*◌, ◌/◌, ◌<◌, false, ◌||◌, List, ◌==◌, ◌≢◌, refl, Float}
-use Rattle.std.proofs.Common.{mul-pos, arith, sym, ap, ne_eqb}
+use Rattle.std.proofs.Common.{mul-pos, arith, sym, ap}
 use Rattle.floats.specs.Ops.{x, y, z}
 use Rattle.floats.specs.Weak.{true_false}
 use Rattle.lists.specs.Below.{any_below, sum_below}
@@ -9,9 +9,8 @@ use Rattle.lists.specs.Bools.{or_left, or_right}
 use Rattle.domain.specs.Laws.{or_else_first, or_else_second, when_none}
 use Rattle.sheet.specs.declared.Sheet.{Sheet}
 use Rattle.sheet.specs.Sheets.{sheet_refusal}
-use Rattle.fill_thousand.specs.declared.Filled.{Filled}
 use Rattle.fill_thousand.specs.Sides.{side_of}
-use Rattle.fill_thousand.specs.Fill.{uneven, uneven_kind, fill_refusal, solid_of, line_volume, per_thousand, fill_of}
+use Rattle.fill_thousand.specs.Fill.{uneven, uneven_kind, fill_refusal, solid_of, line_volume, per_thousand}
 
 -- the sheet's own refusal, then 8
 pub sheet_first : (s : Sheet) (r : ℕ) → r ≡ sheet_refusal s → (r ≢ 0) → r ≡ fill_refusal s
@@ -51,14 +50,9 @@ container_some s h =
     let b = any_below (uneven_kind s.kinds) s.many.kinds in
     solid_some s.container.size (or_left a b (when_none (a || b) 7 (or_else_second (sheet_refusal s) (when (a || b) 8) h)))
 
--- ---- the answer
+-- ---- the fill
 
-pub answer_refused : (s : Sheet) (r : ℕ) → r ≡ fill_refusal s → (r ≢ 0) → ◌≡◌ {A = Filled} (record { refused = r; fill = 0 }) (fill_of s)
-unfolding fill_of
-answer_refused s r e h = rw (← e) (rw (ne_eqb r 0 h))
-
-pub answer_filled : (s : Sheet) (v q : ℕ)
-    → fill_refusal s ≡ 0 → v ≡ sum_below (line_volume s.kinds s.many.kinds s.lines) s.many.lines → q ≡ solid_of s.container.size
-    → ◌≡◌ {A = Filled} (record { refused = 0; fill = v * 1000 / q }) (fill_of s)
-unfolding fill_of per_thousand
-answer_filled s v q h e f = rw (h, ← e, ← f)
+pub filled_by : (s : Sheet) (v q : ℕ) → v ≡ sum_below (line_volume s.kinds s.many.kinds s.lines) s.many.lines → q ≡ solid_of s.container.size
+    → v * 1000 / q ≡ per_thousand s
+unfolding per_thousand
+filled_by s v q e f = rw (← e, ← f) refl

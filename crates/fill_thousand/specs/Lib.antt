@@ -7,3 +7,4 @@ pub mod Known
 pub mod FileFill
 pub mod Tabled
 pub mod Examples
+pub mod TableRead

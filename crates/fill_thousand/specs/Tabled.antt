@@ -1,9 +1,9 @@
 -- The ids and volumes of a sheet's kinds in two columns, and a line's volume by them.
-use Rattle.std.specs.Prelude.{◌≡◌, ℕ, ◌<◌, ◌≤◌, Bool, List, length, replicate, ◌==◌, slice_index}
+use Rattle.std.specs.Prelude.{◌≡◌, ℕ, ◌<◌, ◌≤◌, List, length, replicate, ◌==◌, slice_index}
 use Rattle.std.proofs.Common.{arith}
 use Rattle.std.proofs.lemmas.List.{length-replicate}
 use Rattle.domain.specs.Bounds.{most_kinds}
-use Rattle.lists.specs.Below.{any_below, sum_below, sum_same}
+use Rattle.lists.specs.Below.{sum_below, sum_same}
 use Rattle.domain.specs.Refusals.{when}
 use Rattle.sheet.specs.declared.Sheet.{Sheet}
 use Rattle.sheet.specs.Sheets.{kind_at}
@@ -13,7 +13,7 @@ use Rattle.file_read.specs.Reading.{sheet_of}
 use Rattle.file_read.specs.Records.{Readable}
 use Rattle.lists.specs.Table.{filled, filled_at}
 use Rattle.fill_thousand.specs.Known.{solid_most}
-use Rattle.fill_thousand.specs.Fill.{most_solid, uneven_kind, solid_of, solid_named, solid_if}
+use Rattle.fill_thousand.specs.Fill.{most_solid, solid_of, solid_named, solid_if}
 
 -- the id and the volume of kind k
 unfoldable pub kind_id : Sheet → ℕ → ℕ
@@ -21,12 +21,6 @@ kind_id s k = (kind_at s k).id
 
 unfoldable pub kind_solid : Sheet → ℕ → ℕ
 kind_solid s k = solid_of (kind_at s k).size
-
--- what the loop over the first m kinds tells: whether a length of one does not count, and the two columns filled
-pub record Columns (s : Sheet) (m : ℕ) (odd : Bool) (ids₀ ids solids₀ solids : List ℕ) : Type 0 where
-  pub odd_is : odd ≡ any_below (uneven_kind s.kinds) m
-  pub ids_are : ids ≡ filled ids₀ (kind_id s) m
-  pub solids_are : solids ≡ filled solids₀ (kind_solid s) m
 
 -- the columns of the first m kinds
 pub record Tabled (s : Sheet) (m : ℕ) (ids solids : List ℕ) : Type 0 where

@@ -13,21 +13,24 @@ ghost use Rattle.file_read.specs.Records.{Readable};
 ghost use Rattle.fill_thousand.specs.Sides.{most_side, shortest, longest, whole_or_none, side_of};
 ghost use Rattle.fill_thousand.specs.Fill.{most_solid, solid_of, uneven, line_volume};
 ghost use Rattle.fill_thousand.specs.FileFill.{file_fill};
-ghost use Rattle.fill_thousand.specs.Tabled.{Columns, Small, Loading, volume_if};
+ghost use Rattle.fill_thousand.specs.Tabled.{Small, Loading, volume_if};
+ghost use Rattle.fill_thousand.specs.TableRead.{TableRead};
 
+use domain::{Refusal, refuse};
 use file_read::records;
 
-// The refusal, 0 for none, and the fill per thousand, 0 where it is refused.
+// The ids of a file's kinds, and their volumes.
 #[derive(Clone, Copy)]
-pub struct Filled {
-    pub refused: u32,
-    pub fill: u64,
+struct Table {
+    ids: [u32; domain::MOST_KINDS],
+    solids: [u64; domain::MOST_KINDS],
 }
 
 // The whole number that a length from 1 to 10,000 is, or 0 where it has a fraction.
 fn whole_or_none(v: f64) -> u64
     requires { (le shortest v && le v longest) ≡ true }
-    ensures { (result ≡ whole_or_none v) × (result ≤ most_side) }
+    ensures value { result ≡ whole_or_none v }
+    ensures most { result ≤ most_side }
 {
     let n = std::num::truncating_f64_to_u64(v);
     if std::num::nearest_u64_to_f64(n) == v {
@@ -38,7 +41,8 @@ fn whole_or_none(v: f64) -> u64
 
 // The whole number that a length is, from 1 to 10,000, or 0 where it is none of them.
 fn side(v: f64) -> u64
-    ensures { (result ≡ side_of v) × (result ≤ most_side) }
+    ensures value { result ≡ side_of v }
+    ensures most { result ≤ most_side }
 {
     if (1.0 <= v) & (v <= 10000.0) {
         return whole_or_none(v);
@@ -55,7 +59,8 @@ fn uneven(size: [f64; 3]) -> bool
 
 // The volume by three such numbers.
 fn solid(size: [f64; 3]) -> u64
-    ensures { (result ≡ solid_of size) × (result ≤ most_solid) }
+    ensures value { result ≡ solid_of size }
+    ensures most { result ≤ most_solid }
 {
     let w = side(size[0]);
     let d = side(size[1]);
@@ -63,104 +68,66 @@ fn solid(size: [f64; 3]) -> u64
     w * d * h
 }
 
-// The ids and volumes of a file's m kinds into two columns, and whether a length of one is no whole number from 1 to 10,000.
-fn kind_columns(
-    f: &[u8],
-    m: usize,
-    ids: &mut [u32; domain::MOST_KINDS],
-    solids: &mut [u64; domain::MOST_KINDS],
-) -> bool
-    requires { Readable f.now × (m ≡ (counts_of f.now).kinds) }
-    ensures { Columns (sheet_of f.now) m result ids.old ids.new solids.old solids.new }
+// The table of a file's m kinds, or a refusal where a length of one is no whole number from 1 to 10,000.
+fn table_of(f: &[u8], m: usize) -> Result<Table, Refusal>
+    requires readable { Readable f.now }
+    requires kinds { m ≡ (counts_of f.now).kinds }
+    ensures { TableRead (sheet_of f.now) m result }
 {
-    let mut odd = false;
-    let mut k = 0;
-    while k < m {
+    let mut ids = [0u32; domain::MOST_KINDS];
+    let mut solids = [0u64; domain::MOST_KINDS];
+    for k in 0..m {
         let kind = records::kind_in(f, k);
-        let size = kind.size;
-        odd = odd | uneven(size);
+        refuse(uneven(kind.size), Refusal::Uneven)?;
         ids[k] = kind.id;
-        solids[k] = solid(size);
-        k += 1;
+        solids[k] = solid(kind.size);
     }
-    odd
+    Ok(Table { ids, solids })
 }
 
 fn volume_if(a: u32, id: u32, v: u64) -> u64
-    ensures { (result ≡ when (a == id) v) × (result ≤ v) }
+    ensures value { result ≡ when (a == id) v }
+    ensures most { result ≤ v }
 {
-    if a == id {
-        return v;
-    }
-    0
+    if a == id { v } else { 0 }
 }
 
 // The volume of the kind that has this id, of the first m. It cannot wrap: a volume for each kind at most.
-fn line_volume(
-    ids: &[u32; domain::MOST_KINDS],
-    solids: &[u64; domain::MOST_KINDS],
-    m: usize,
-    id: u32,
-) -> u64
-    requires { (m ≤ most_kinds) × Small solids.now m }
-    ensures { result ≡ sum_below (volume_if ids.now solids.now id) m }
+fn line_volume(table: &Table, m: usize, id: u32) -> u64
+    requires few { m ≤ most_kinds }
+    requires small { Small table.now.solids m }
+    ensures { result ≡ sum_below (volume_if table.now.ids table.now.solids id) m }
 {
     let mut t = 0;
-    let mut k = 0;
-    while k < m {
-        t += volume_if(ids[k], id, solids[k]);
-        k += 1;
+    for k in 0..m {
+        t += volume_if(table.ids[k], id, table.solids[k]);
     }
     t
 }
 
-// The volume of the file's n lines, where the columns hold its m kinds. It cannot wrap: a line is of one kind at most.
-fn volume_of(
-    f: &[u8],
-    start: usize,
-    n: usize,
-    ids: &[u32; domain::MOST_KINDS],
-    solids: &[u64; domain::MOST_KINDS],
-    m: usize,
-) -> u64
-    requires { Loading f.now start n m ids.now solids.now }
-    ensures { (result ≡ sum_below (line_volume (sheet_of f.now).kinds m (sheet_of f.now).lines) n) × (result ≤ most_lines * most_solid) }
+// The volume of the file's n lines, where the table has its m kinds. It cannot wrap: a line is of one kind at most.
+fn volume_of(f: &[u8], start: usize, n: usize, table: &Table, m: usize) -> u64
+    requires { Loading f.now start n m table.now.ids table.now.solids }
+    ensures value { result ≡ sum_below (line_volume (sheet_of f.now).kinds m (sheet_of f.now).lines) n }
+    ensures most { result ≤ most_lines * most_solid }
 {
     let mut t = 0;
-    let mut i = 0;
-    while i < n {
+    for i in 0..n {
         let line = records::line_in(f, start, i);
-        t += line_volume(ids, solids, m, line.id);
-        i += 1;
+        t += line_volume(table, m, line.id);
     }
     t
 }
 
-// The refusal that a file gets, 8 behind all others where a length is no such number; else the volume of the lines of known kinds, a
-// thousand times, by that of the container, rounded down.
-pub fn fill_of(f: &[u8]) -> Filled
+// The refusal that a file gets, for an uneven length behind all others; else the volume of the lines of known kinds, a thousand times,
+// by that of the container, rounded down.
+pub fn fill_of(f: &[u8]) -> Result<u64, Refusal>
     ensures { result ≡ file_fill f.now }
 {
-    let a = file_accept::accept(f);
-    if a.refused != 0 {
-        return Filled {
-            refused: a.refused,
-            fill: 0,
-        };
-    }
-    let m = a.kinds;
+    let a = file_accept::accept(f)?;
     let container = records::container_in(f);
-    let size = container.size;
-    let mut ids = [0u32; domain::MOST_KINDS];
-    let mut solids = [0u64; domain::MOST_KINDS];
-    let odd = kind_columns(f, m, &mut ids, &mut solids);
-    let refused = domain::given(uneven(size) | odd, 8);
-    if refused != 0 {
-        return Filled { refused, fill: 0 };
-    }
-    let loaded = volume_of(f, a.start, a.lines, &ids, &solids, m);
-    Filled {
-        refused: 0,
-        fill: loaded * 1000 / solid(size),
-    }
+    refuse(uneven(container.size), Refusal::Uneven)?;
+    let table = table_of(f, a.kinds)?;
+    let loaded = volume_of(f, a.start, a.lines, &table, a.kinds);
+    Ok(loaded * 1000 / solid(container.size))
 }

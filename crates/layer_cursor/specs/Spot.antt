@@ -1,9 +1,9 @@
 -- RULES: Second placer: cursor. Where a box would go next and the cursor after it (packing_utils.rs, `spot`), in the Rust's operation order. There
 -- is no slack anywhere.
-use Rattle.std.specs.Prelude.{Bool, true, false, cond, ◌||◌, List, [], ◌∷◌, Float}
+use Rattle.std.specs.Prelude.{Bool, cond, ◌||◌, List, [], ◌∷◌, Option, Some, None, Float}
 use Rattle.std.specs.Float.Ieee.{lt}
 use Rattle.floats.specs.Ops as Ops
-use Rattle.floats.specs.Ops.{◌⊕◌, none, nowhere, larger}
+use Rattle.floats.specs.Ops.{◌⊕◌, none, larger}
 use Rattle.measures.specs.declared.Container.{Container}
 use Rattle.layer_cursor.specs.declared.LayerCursor.{LayerCursor}
 use Rattle.layer_cursor.specs.declared.LayerSpot.{LayerSpot}
@@ -38,17 +38,19 @@ past b c size =
       height = larger c.height (Ops.z size);
     }
 
--- no: the cursor stays, and there is no position
-abbrev pub no_spot : LayerCursor → LayerSpot
-no_spot c = record { fits = false; at = nowhere; next = c }
-
 -- a box at the cursor c
 abbrev pub spot_at : Container → LayerCursor → List Float → LayerSpot
-spot_at b c size = record { fits = true; at = c.x ∷ c.y ∷ c.z ∷ []; next = past b c size }
+spot_at b c size = record { at = c.x ∷ c.y ∷ c.z ∷ []; next = past b c size }
 
 -- the cursor that a box of these lengths asks for
 abbrev pub turn_to : Container → List Float → LayerCursor → List Float → LayerCursor
 turn_to b max c size = new_layer b max (new_row b max c (Ops.x size)) (Ops.y size)
 
-unfoldable pub spot_of : Container → List Float → LayerCursor → List Float → LayerSpot
-spot_of b max c size = cond (over max (turn_to b max c size) size) (no_spot c) (spot_at b (turn_to b max c size) size)
+-- the spot that it gets; none where it is over the far limit of some axis
+unfoldable pub spot_of : Container → List Float → LayerCursor → List Float → Option LayerSpot
+spot_of b max c size = cond (over max (turn_to b max c size) size) None (Some (spot_at b (turn_to b max c size) size))
+
+-- the cursor after a box was offered: behind its spot, or where it was
+abbrev pub after_spot : LayerCursor → Option LayerSpot → LayerCursor
+after_spot c None = c
+after_spot c (Some p) = p.next

@@ -17,15 +17,15 @@ pub struct LayerCursor {
     pub height: f64,
 }
 
-// A spot that a box can take and the cursor after it; or that it doesn't fit, and the cursor as it was.
+// A spot that a box can take, and the cursor after it.
 #[derive(Clone, Copy)]
 pub struct LayerSpot {
-    pub fits: bool,
     pub at: [f64; 3],
     pub next: LayerCursor,
 }
 
 // The cursor on a new row, where a box of this width runs over the open one.
+#[tactic(auto, unfolding(crate::specs::Spot::new_row))]
 fn new_row(container: Container, max: [f64; 3], c: LayerCursor, width: f64) -> LayerCursor
     ensures { result ≡ new_row container max c width }
 {
@@ -42,6 +42,7 @@ fn new_row(container: Container, max: [f64; 3], c: LayerCursor, width: f64) -> L
 }
 
 // The cursor on a new layer, where a box of this depth runs over the open one.
+#[tactic(auto, unfolding(crate::specs::Spot::new_layer))]
 fn new_layer(container: Container, max: [f64; 3], c: LayerCursor, depth: f64) -> LayerCursor
     ensures { result ≡ new_layer container max c depth }
 {
@@ -65,32 +66,31 @@ fn over(max: [f64; 3], c: LayerCursor, size: [f64; 3]) -> bool
     (c.x + size[0] > max[0]) | ((c.y + size[1] > max[1]) | (c.z + size[2] > max[2]))
 }
 
-// Where a box of these lengths would go next, if anywhere. `max` has the far limit of each axis. For every float given the answer is settled, so
-// nothing is tested: a user calls `layer_fill` or `layer_lent`, which refuse.
-pub fn spot(container: Container, max: [f64; 3], cursor: LayerCursor, size: [f64; 3]) -> LayerSpot
+// Where a box of these lengths would go next; none where it fits nowhere, and the cursor stays as the caller has it. `max` has the far limit of each
+// axis. For every float given the answer is settled, so nothing is tested: a user calls `layer_fill` or `layer_lent`, which refuse.
+#[tactic(auto, unfolding(crate::specs::Spot::spot_of))]
+pub fn spot(
+    container: Container,
+    max: [f64; 3],
+    cursor: LayerCursor,
+    size: [f64; 3],
+) -> Option<LayerSpot>
     ensures { result ≡ spot_of container max cursor size }
 {
     let row = new_row(container, max, cursor, size[0]);
     let c = new_layer(container, max, row, size[1]);
     if over(max, c, size) {
-        return LayerSpot {
-            fits: false,
-            at: [0.0, 0.0, 0.0],
-            next: cursor,
-        };
+        return None;
     }
-    let depth = floats::larger(c.depth, size[1]);
-    let height = floats::larger(c.height, size[2]);
     let next = LayerCursor {
         x: c.x + size[0] + container.spacing,
         y: c.y,
         z: c.z,
-        depth,
-        height,
+        depth: floats::larger(c.depth, size[1]),
+        height: floats::larger(c.height, size[2]),
     };
-    LayerSpot {
-        fits: true,
+    Some(LayerSpot {
         at: [c.x, c.y, c.z],
         next,
-    }
+    })
 }

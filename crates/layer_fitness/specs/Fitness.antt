@@ -1,16 +1,17 @@
 -- RULES: Second placer: items. The packing fitness (packing_utils.rs, `packing_fitness`), in the Rust's operation order. Its fill is a utilization.
-use Rattle.std.specs.Prelude.{◌≡◌, refl, false, cond, not, ◌||◌, ℕ, ◌≤◌, eqb, ltb, Float}
+use Rattle.std.specs.Prelude.{◌≡◌, refl, false, not, ◌||◌, ℕ, ◌≤◌, ltb, max, Result, Float}
 use Rattle.std.proofs.Common.{ltb-false}
 use Rattle.std.specs.Float.{binary64}
 use Rattle.std.specs.Float.Ieee.{of_bits, round}
-use Rattle.floats.specs.Ops.{◌⊕◌, ◌⊗◌, ◌⊘◌, none}
+use Rattle.floats.specs.Ops.{◌⊕◌, ◌⊗◌, ◌⊘◌}
 use Rattle.floats.specs.Whole.{whole}
 use Rattle.domain.specs.Bounds.{most_boxes}
 use Rattle.domain.specs.Ranges.{is_fill}
+use Rattle.domain.specs.declared.Refusal.{Refusal}
 use Rattle.domain.specs.Refusals.{when, or_else}
+use Rattle.domain.specs.Refusal.{answer_of}
 use Rattle.lists.specs.Bools.{or_left, or_right}
 use Rattle.domain.specs.Laws.{or_else_first, when_none}
-use Rattle.layer_fitness.specs.declared.Fitness.{Fitness}
 
 -- the weights of the boxes and of the fill: 100 and 10
 abbrev pub hundred : Float
@@ -27,22 +28,16 @@ pub ten_is : ten ≡ round binary64 false 10 1
 unfolding of_bits round
 ten_is = refl
 
--- the number, or 1 for 0: what a count is divided by
-abbrev pub at_least_one : ℕ → ℕ
-at_least_one n = cond (eqb n 0) 1 n
-
 -- (placed / max(total, 1)) · 100 + fill · 10
 abbrev pub fitness_of : ℕ → ℕ → Float → Float
-fitness_of placed total fill = whole placed ⊘ whole (at_least_one total) ⊗ hundred ⊕ fill ⊗ ten
+fitness_of placed total fill = whole placed ⊘ whole (max total 1) ⊗ hundred ⊕ fill ⊗ ten
 
 -- 2 for a count of more boxes than an order may have, then 3 for a fill out of its range. RULES: Refusals.
 unfoldable pub fitness_refusal : ℕ → ℕ → Float → ℕ
 fitness_refusal placed total fill = or_else (when (ltb most_boxes placed || ltb most_boxes total) 2) (when (not (is_fill fill)) 3)
 
-unfoldable pub rated_of : ℕ → ℕ → Float → Fitness
-rated_of placed total fill =
-    cond (eqb (fitness_refusal placed total fill) 0) (record { refused = 0; value = fitness_of placed total fill })
-    (record { refused = fitness_refusal placed total fill; value = none })
+unfoldable pub rated_of : ℕ → ℕ → Float → Result Float Refusal
+rated_of placed total fill = answer_of (fitness_refusal placed total fill) (fitness_of placed total fill)
 
 -- ---- counts that are not refused
 pub record Few (placed total : ℕ) : Type 0 where

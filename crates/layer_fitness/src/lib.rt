@@ -2,51 +2,27 @@
 
 #![tactic(auto)]
 
-ghost use Rattle.std.specs.Prelude.{◌≡◌, ◌<◌};
-ghost use Rattle.layer_fitness.specs.Fitness.{at_least_one, fitness_refusal, fitness_of, rated_of};
+ghost use Rattle.std.specs.Prelude.{◌≡◌};
+ghost use Rattle.domain.specs.Refusal.{answer_of};
+ghost use Rattle.layer_fitness.specs.Fitness.{fitness_refusal, rated_of};
 
-#[derive(Clone, Copy)]
-pub struct Fitness {
-    pub refused: u32,
-    pub value: f64,
-}
+use domain::{Refusal, refuse};
 
-// The number, or 1 for 0: what a count is divided by.
-pub fn at_least_one(n: u32) -> u32
-    ensures { (result ≡ at_least_one n) × (0 < result) }
+// What is refused: 2 for a count over its bound, 3 for a fill out of its range.
+#[tactic(auto, unfolding(crate::specs::Fitness::fitness_refusal))]
+fn fitness_refusal(placed: usize, total: usize, fill: f64) -> Result<(), Refusal>
+    ensures { result ≡ answer_of (fitness_refusal placed total fill) tt }
 {
-    if n == 0 {
-        return 1;
-    }
-    n
-}
-
-// 2 for a count over its bound, 3 for a fill out of its range.
-fn fitness_refusal(placed: usize, total: usize, fill: f64) -> u32
-    ensures { result ≡ fitness_refusal placed total fill }
-{
-    let over = domain::given(
-        (placed > domain::MOST_BOXES) | (total > domain::MOST_BOXES),
-        2,
-    );
-    let range = domain::given(!domain::is_measure(fill), 3);
-    domain::or_else(over, range)
+    let over = (placed > domain::MOST_BOXES) | (total > domain::MOST_BOXES);
+    refuse(over, Refusal::Count)?;
+    refuse(!domain::is_measure(fill), Refusal::Measure)
 }
 
 // Placed boxes by all boxes a hundredfold, and the fill tenfold: more boxes count before a tighter fill.
-pub fn packing_fitness(placed: usize, total: usize, fill: f64) -> Fitness
+pub fn packing_fitness(placed: usize, total: usize, fill: f64) -> Result<f64, Refusal>
     ensures { result ≡ rated_of placed total fill }
 {
-    let refused = fitness_refusal(placed, total, fill);
-    if refused != 0 {
-        return Fitness {
-            refused,
-            value: 0.0,
-        };
-    }
-    let ratio = ((placed as u32) as f64) / (at_least_one(total as u32) as f64);
-    Fitness {
-        refused: 0,
-        value: ratio * 100.0 + fill * 10.0,
-    }
+    fitness_refusal(placed, total, fill)?;
+    let ratio = f64::from(placed as u32) / f64::from((total as u32).max(1));
+    Ok(ratio * 100.0 + fill * 10.0)
 }

@@ -9,17 +9,12 @@ ghost use Rattle.lists.specs.Below.{any_below};
 ghost use Rattle.file_read.specs.Reading.{sheet_of};
 ghost use Rattle.layer_instances.specs.Records.{records_in, is_stranger};
 ghost use Rattle.plan_boxes.specs.Files.{InFile};
-ghost use Rattle.layer_instances.specs.Instances.{record_words, answer_of, over_number, Ended};
+ghost use Rattle.domain.specs.Refusal.{refusal_by};
+ghost use Rattle.layer_instances.specs.Instances.{record_words, over_number, Ended};
 
+use domain::{Refusal, refuse};
 use file_read::records;
 use plan_boxes::Instance;
-
-// How many records or orientations there are. Refusal 6 gives the number that need room.
-#[derive(Clone, Copy)]
-pub struct Built {
-    pub refused: u32,
-    pub count: usize,
-}
 
 // Words of an instance record: kind, instance, orientation count.
 pub const RECORD: usize = 3;
@@ -28,36 +23,17 @@ pub const RECORD: usize = 3;
 pub fn has_stranger(records: &[u32], m: usize) -> bool
     ensures { result ≡ any_below (is_stranger records.now m) (records_in records.now) }
 {
-    let n = records.len() / RECORD;
-    let mut found = false;
-    let mut j = 0;
-    while j < n {
-        let k = records[j * RECORD] as usize;
-        found = found | (m <= k);
-        j += 1;
-    }
-    found
+    (0..records.len() / RECORD).any(|j| m <= records[j * RECORD] as usize)
 }
 
-// The answer of a call with n results: the number comes with no refusal and with refusal 6.
-pub fn answer(refused: u32, n: usize) -> Built
-    ensures { result ≡ answer_of refused n }
+// What too many records or items are refused for: the shape of the file where that is wrong, which comes first, else their count.
+pub fn too_many(f: &[u8]) -> Refusal
+    ensures { result ≡ refusal_by (over_number f.now) 0 }
 {
-    if (refused == 0) | (refused == 6) {
-        return Built { refused, count: n };
+    match records::sections_of(f) {
+        Some(_) => Refusal::Count,
+        None => Refusal::Shape,
     }
-    Built { refused, count: 0 }
-}
-
-// What too many records or items are refused by: 1 where the file has not the right shape, which comes first, else 2.
-pub fn over_number(f: &[u8]) -> u32
-    ensures { result ≡ over_number f.now }
-{
-    let s = records::sections_of(f);
-    if s.right {
-        return 2;
-    }
-    1
 }
 
 // One record's words, from `at` on.
@@ -65,9 +41,7 @@ fn put_record(out: &mut [u32], at: usize, kind: u32, instance: u32, orientations
     requires { at + 3 ≤ length out.old }
     ensures { out.new ≡ sets out.old at (kind ∷ instance ∷ orientations ∷ []) }
 {
-    out[at] = kind;
-    out[at + 1] = instance;
-    out[at + 2] = orientations;
+    out[at..at + RECORD].copy_from_slice(&[kind, instance, orientations]);
 }
 
 // The records of the first n boxes.
@@ -79,8 +53,7 @@ fn put_records(f: &[u8], out: &mut [u32], n: usize)
         kind: 0,
         instance: 0,
     };
-    let mut t = 0;
-    while t < n {
+    for t in 0..n {
         let k = u.kind;
         let kind = records::kind_in(f, k);
         let orientations = measures::allowed_orientations(kind.rule);
@@ -92,26 +65,17 @@ fn put_records(f: &[u8], out: &mut [u32], n: usize)
             orientations as u32,
         );
         u = plan_boxes::next_box(u, kind.quantity);
-        t += 1;
     }
 }
 
-// Each instance of each kind of the order in a load file as a record: the kind's place, the instance, how many orientations the kind is allowed.
-// What the file gets, then 6 where the words lent are fewer than the records need.
-pub fn build_instances(order: &[u8], slots: &mut [u32]) -> Built
+// Each instance of each kind of the order in a load file as a record: the kind's place, the instance, how many orientations the kind is allowed. How many
+// records there are. What the file gets, then 6 where the words lent are fewer than the records need.
+pub fn build_instances(order: &[u8], slots: &mut [u32]) -> Result<usize, Refusal>
     ensures { Ended order.now slots.old result slots.new }
 {
-    let a = file_accept::accept(order);
-    if a.refused != 0 {
-        return Built {
-            refused: a.refused,
-            count: 0,
-        };
-    }
+    let a = file_accept::accept(order)?;
     let n = plan_boxes::boxes_of(order, a.kinds) as usize;
-    if slots.len() / RECORD < n {
-        return answer(6, n);
-    }
+    refuse(slots.len() / RECORD < n, Refusal::Room(n))?;
     put_records(order, slots, n);
-    answer(0, n)
+    Ok(n)
 }

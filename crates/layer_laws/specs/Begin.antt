@@ -1,15 +1,14 @@
 -- The fill over n boxes is the beginning of the fill over more: its lines are the first lines of the other.
-use Rattle.std.specs.Prelude.{◌≡◌, refl, Bool, true, false, cond, List, ℕ, zero, suc, ◌<◌, ◌≤◌, eqb, ltb, get_or}
-use Rattle.std.proofs.Common.{◌∙◌, ⊎_elim, le_refl, eq-or-lt_of_le, le_of_suc-le-suc, not-suc-le-zero, arith, eqb-true, ltb-true, ltb-false, get_or-set_other}
+use Rattle.std.specs.Prelude.{◌≡◌, refl, Bool, true, false, List, ℕ, zero, suc, ◌<◌, ◌≤◌, eqb, get_or, Option, Some, None, min}
+use Rattle.std.proofs.Common.{◌∙◌, ⊎_elim, le_refl, eq-or-lt_of_le, le_of_suc-le-suc, not-suc-le-zero, arith, eqb-true, get_or-set_other}
+use Rattle.std.proofs.Math.Nat.{le-min, min-le_left, min-le_right}
 use Rattle.measures.specs.declared.Kind.{Kind}
 use Rattle.sheet.specs.declared.Sheet.{Sheet}
 use Rattle.sheet.specs.Sheets.{no_kind, no_line, sheet_refusal}
 use Rattle.layer_state.specs.declared.stand.Step.{Step}
 use Rattle.layer_fill.specs.declared.LayerFill.{LayerFill}
 use Rattle.layer_fill.specs.Fill.{empty, line_of, took}
-use Rattle.plan_sheet.specs.Boxes.{smaller}
 use Rattle.plan_sheet.specs.Plans.{Plan, refused_plan}
-use Rattle.lists.specs.Bools.{cond_keeps}
 use Rattle.layer_plan.specs.Run.{step_by, offered, run_from}
 use Rattle.layer_plan.specs.Offers.{Offer, best_offer}
 use Rattle.layer_instances.specs.Instances.{total}
@@ -28,12 +27,11 @@ begins_then : (f g h : LayerFill) → Begins f g → Begins g h → Begins f h
 begins_then f g h a b =
     record { few = let x = a.few in let y = b.few in omega arith; same = λ j l. b.same j (let x = a.few in omega arith) ∙ a.same j l }
 
-took_begins : (f : LayerFill) (s : Step) (id instance : ℕ) → Begins f (took f s id instance)
+took_begins : (f : LayerFill) (s : Option Step) (id instance : ℕ) → Begins f (took f s id instance)
 unfolding took
-took_begins f s id instance =
-    cond_keeps (Begins f) s.fits
-    (record { few = omega arith; same = λ j l. get_or-set_other f.lines f.count j (line_of s id instance) no_line (λ e. omega arith) })
-    (begins_self f)
+took_begins f None id instance = begins_self f
+took_begins f (Some s) id instance =
+    record { few = omega arith; same = λ j l. get_or-set_other f.lines f.count j (line_of s id instance) no_line (λ e. omega arith) }
 
 offered_begins : (f : LayerFill) (kinds : List Kind) (o : Offer) → Begins f (offered f kinds o)
 unfolding offered
@@ -65,14 +63,8 @@ plan_begins p q f g a b m n h =
       same = λ j l. rw (m.lines_are, n.lines_are) (h.same j (rw m.placed_are at l));
     }
 
-smaller_mono : (a b t : ℕ) → a ≤ b → smaller a t ≤ smaller b t
-smaller_mono a b t h = go (ltb a t) (ltb b t) refl refl
-  where
-    go : (p q : Bool) → ltb a t ≡ p → ltb b t ≡ q → cond p a t ≤ cond q b t
-    go true true e f = h
-    go true false e f = let x = ltb-true a t e in omega arith
-    go false true e f = let x = ltb-false a t e in let y = ltb-true b t f in omega arith
-    go false false e f = le_refl t
+min_mono : (a b t : ℕ) → a ≤ b → min a t ≤ min b t
+min_mono a b t h = le-min (let l = min-le_left a t in omega arith) (min-le_right a t)
 
 -- of two fills of an order, the one over fewer boxes begins the other. A refused order has no lines in either.
 pub fill_begins : (order : Sheet) (a b : ℕ) → a ≤ b → PlanBegins (layer_fill_of order a) (layer_fill_of order b)
@@ -86,5 +78,5 @@ fill_begins order a b h = go (eqb (sheet_refusal order) 0) refl
         (number order b)
         (fill_made order a r) (fill_made order b r)
         (run_begins (empty order.container) order.kinds (best_offer order.kinds) (number order a) (number order b)
-        (smaller_mono a b (total order) h))
+        (min_mono a b (total order) h))
     go false e = rw e (record { few = le_refl 0; same = λ j l. absurd (not-suc-le-zero l) })

@@ -1,18 +1,18 @@
 -- What the plan of a fill holds: the fill's own lines and their number.
-use Rattle.std.specs.Prelude.{◌≡◌, ℕ, ◌≤◌}
+use Rattle.std.specs.Prelude.{◌≡◌, ℕ, ◌≤◌, min}
 use Rattle.std.proofs.Common.{arith, eq-eqb}
+use Rattle.std.proofs.Math.Nat.{min-le_right}
 use Rattle.domain.specs.Bounds.{most_boxes}
 use Rattle.sheet.specs.declared.Sheet.{Sheet}
 use Rattle.sheet.specs.Sheets.{sheet_refusal}
 use Rattle.sheet.specs.Accepted.{Accepted, accepted}
 use Rattle.layer_fill.specs.declared.LayerFill.{LayerFill}
 use Rattle.layer_fill.specs.Fill.{empty}
-use Rattle.plan_sheet.specs.Boxes.{smaller}
 use Rattle.layer_plan.specs.Run.{run_from, run_few}
 use Rattle.layer_plan.specs.Offers.{best_offer}
 use Rattle.layer_instances.specs.Instances.{total}
 use Rattle.plan_boxes.specs.Orders.{boxes_are}
-use Rattle.layer_plan.specs.Fills.{plan_from, layer_fill_of, smaller_le}
+use Rattle.layer_plan.specs.Fills.{plan_from, layer_fill_of}
 pub use Rattle.layer_plan.specs.Laid.{Made, plan_made}
 
 -- the fill over n boxes of an order
@@ -21,7 +21,7 @@ fill_to order n = run_from (empty order.container) order.kinds (best_offer order
 
 -- how many boxes a fill considers
 abbrev pub number : Sheet → ℕ → ℕ
-number order consider = smaller consider (total order)
+number order consider = min consider (total order)
 
 -- the plan of an accepted order
 pub fill_plan : (order : Sheet) (consider : ℕ) → sheet_refusal order ≡ 0
@@ -32,7 +32,7 @@ fill_plan order consider h = rw (eq-eqb (sheet_refusal order) 0 h)
 -- no more boxes are considered than there are
 pub number_few : (order : Sheet) (consider : ℕ) → Accepted order → number order consider ≤ most_boxes
 number_few order consider a =
-    let l = smaller_le consider (total order) in
+    let l = min-le_right consider (total order) in
     let e = boxes_are order a in
     let f = a.boxes_few in
     omega arith

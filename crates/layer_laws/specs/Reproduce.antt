@@ -1,12 +1,12 @@
 -- The instances of an order, placed in its own order and each in the orientation that a fill of the order gave it, make that fill again.
 -- The Rust's comment promises this of `seed_orientations`. It holds for every accepted order and every number of boxes to consider, if
 -- the same number is considered again.
-use Rattle.std.specs.Prelude.{◌≡◌, Bool, ◌&&◌, List, length, get_or, set}
+use Rattle.std.specs.Prelude.{◌≡◌, Bool, ◌&&◌, List, length, get_or, set, max, Option, Some, None}
 use Rattle.std.proofs.Math.Path.{refl, ap}
 use Rattle.std.proofs.Common.{sym, ◌∙◌, ⊎_elim, le_refl, eq-or-lt_of_le, le_of_suc-le-suc, not-suc-le-zero, add-one, arith, get_or-set_other}
 use Rattle.std.proofs.Math.Bool.{true, false, cond}
 use Prim.Native.Nat.{ℕ, zero, suc, ◌+◌, ◌%◌, ◌<◌, ◌≤◌}
-use borrow.Author.Tests.{eq-eqb, ne_eqb, eqb-true, eqb-false}
+use borrow.Author.Tests.{eq-eqb, eqb-true, eqb-false}
 use Rattle.std.proofs.Math.Dec.{eqb}
 use Rattle.std.proofs.Math.Seq.{get_or-set_same}
 use Rattle.domain.specs.Bounds.{most_boxes}
@@ -20,15 +20,14 @@ use Rattle.sheet.specs.Sheets.{no_kind, no_line, same_id, quantity_of}
 use Rattle.sheet.specs.Accepted.{Accepted}
 use Rattle.layer_state.specs.declared.stand.Step.{Step}
 use Rattle.layer_fill.specs.declared.LayerFill.{LayerFill}
-use Rattle.layer_fill.specs.Fill.{empty, line_of, pushed, took}
+use Rattle.layer_fill.specs.Fill.{empty, line_of, took}
 use Rattle.layer_state.specs.Stand.{place_of}
 use Rattle.layer_state.specs.Best.{place_best_of}
 use Rattle.layer_state.specs.Again.{seed_for, some_turn, best_again}
 use Rattle.plan_boxes.specs.Turns.{turn_of, Right, turn_right, by_order}
 use Rattle.layer_plan.specs.Run.{offered, run_from, run_few}
 use Rattle.layer_plan.specs.Offers.{Offer, turned, best_offer}
-use Rattle.layer_plan.specs.Columns.{run_long}
-use Rattle.layer_fitness.specs.Fitness.{at_least_one}
+use Rattle.layer_plan.specs.Shown.{run_long}
 use Rattle.plan_boxes.specs.Orders.{some_boxes}
 use Rattle.layer_seeds.specs.Seeds.{seed_of}
 use Rattle.layer_laws.specs.Made.{fill_to}
@@ -77,26 +76,32 @@ seed_before lines c zero l id i h = refl
 seed_before lines c (suc n) l id i h =
     rw (get_or-set_other lines c n l no_line (λ e. omega arith), seed_before lines c n l id i (omega arith))
 
-module _ (f : LayerFill) (s : Step) (id instance id' instance' : ℕ) (room : f.count < length f.lines) where
-  pushed_seed : seed_of (set f.lines f.count (line_of s id instance)) (f.count + 1) id' instance'
+-- what a step says of a box, where the lines before it say old: of its own box its orientation
+abbrev pub says : Bool → Option Step → ℕ → ℕ
+says own None old = old
+says own (Some s) old = cond own s.orientation old
+
+says_other : (s : Option Step) (old : ℕ) → says false s old ≡ old
+says_other None old = refl
+says_other (Some s) old = refl
+
+says_own : (s : Option Step) → says true s 0 ≡ seed_for s
+says_own None = refl
+says_own (Some s) = refl
+
+module _ (f : LayerFill) (id instance id' instance' : ℕ) (room : f.count < length f.lines) where
+  pushed_seed : (s : Step) → seed_of (set f.lines f.count (line_of s id instance)) (f.count + 1) id' instance'
       ≡ cond (eqb id id' && eqb instance instance') s.orientation (seed_of f.lines f.count id' instance')
   unfolding seed_of
-  pushed_seed =
+  pushed_seed s =
       rw (add-one f.count, get_or-set_same f.lines f.count (line_of s id instance) no_line room)
       (rw (seed_before f.lines f.count f.count (line_of s id instance) id' instance' (le_refl f.count)))
 
-  pub took_seed : seed_of (took f s id instance).lines (took f s id instance).count id' instance'
-      ≡ cond s.fits (cond (eqb id id' && eqb instance instance') s.orientation (seed_of f.lines f.count id' instance'))
-      (seed_of f.lines f.count id' instance')
+  pub took_seed : (s : Option Step) → seed_of (took f s id instance).lines (took f s id instance).count id' instance'
+      ≡ says (eqb id id' && eqb instance instance') s (seed_of f.lines f.count id' instance')
   unfolding took
-  took_seed = go s.fits
-    where
-      go : (b : Bool)
-          → seed_of (cond b (pushed f s id instance) f).lines (cond b (pushed f s id instance) f).count id' instance'
-          ≡ cond b (cond (eqb id id' && eqb instance instance') s.orientation (seed_of f.lines f.count id' instance'))
-          (seed_of f.lines f.count id' instance')
-      go true = pushed_seed
-      go false = refl
+  took_seed None = refl
+  took_seed (Some s) = pushed_seed s
 
 -- whether two turns have one box
 abbrev pub one_box : Sheet → ℕ → ℕ → Bool
@@ -107,7 +112,7 @@ abbrev pub boxes_of : Sheet → ℕ
 boxes_of order = sum_below (quantity_of order.kinds) order.many.kinds
 
 -- what becomes of box t
-abbrev pub step_at : Sheet → ℕ → Step
+abbrev pub step_at : Sheet → ℕ → Option Step
 step_at order t = place_best_of (fill_to order t).stand (kind_of order.kinds t)
 
 -- the orientation that the fill over n boxes says of box t
@@ -121,23 +126,15 @@ fill_next order n = refl
 fill_long : (order : Sheet) (n : ℕ) → length (fill_to order n).lines ≡ most_boxes
 fill_long order n = run_long order.container order.kinds (best_offer order.kinds) n
 
-cond_same : {A : Type 0} (b : Bool) (x : A) → cond b x x ≡ x
-cond_same true x = refl
-cond_same false x = refl
-
 module _ (order : Sheet) (a : Accepted order) where
-  seed_next : (n t : ℕ) → n < boxes_of order
-      → seed_in order (suc n) t
-      ≡ cond (step_at order n).fits
-      (cond (one_box order n t) (step_at order n).orientation (seed_in order n t))
-      (seed_in order n t)
+  seed_next : (n t : ℕ) → n < boxes_of order → seed_in order (suc n) t ≡ says (one_box order n t) (step_at order n) (seed_in order n t)
   seed_next n t h =
       let c = run_few (empty order.container) order.kinds (best_offer order.kinds) n in
       let l = fill_long order n in
       let m = a.boxes_few in
       ap (λ (f : LayerFill). seed_of f.lines f.count (box_id order.kinds t) (box_instance order.kinds t)) (fill_next order n)
-      ∙ took_seed (fill_to order n) (step_at order n) (box_id order.kinds n) (box_instance order.kinds n) (box_id order.kinds t)
-      (box_instance order.kinds t) (omega arith)
+      ∙ took_seed (fill_to order n) (box_id order.kinds n) (box_instance order.kinds n) (box_id order.kinds t) (box_instance order.kinds t)
+      (omega arith) (step_at order n)
 
   -- another turn's box is not this one
   differs : (n t : ℕ) → n < boxes_of order → t < boxes_of order → (n ≡ t → ⊥) → one_box order n t ≡ false
@@ -154,7 +151,7 @@ module _ (order : Sheet) (a : Accepted order) where
       go false q e f = refl
 
   seed_other : (n t : ℕ) → n < boxes_of order → t < boxes_of order → (n ≡ t → ⊥) → seed_in order (suc n) t ≡ seed_in order n t
-  seed_other n t h i d = seed_next n t h ∙ rw (differs n t h i d) (cond_same (step_at order n).fits (seed_in order n t))
+  seed_other n t h i d = seed_next n t h ∙ rw (differs n t h i d) (says_other (step_at order n) (seed_in order n t))
 
   -- before its turn nothing is said of a box
   seed_later : (n t : ℕ) → n ≤ t → t < boxes_of order → seed_in order n t ≡ 0
@@ -169,7 +166,7 @@ module _ (order : Sheet) (a : Accepted order) where
         eq-eqb (box_id order.kinds t) (box_id order.kinds t) refl,
         eq-eqb (box_instance order.kinds t) (box_instance order.kinds t) refl,
         seed_later t t (le_refl t) i,
-      )
+      ) (says_own (step_at order t))
 
   -- after it, what became of it
   pub seed_kept : (n t : ℕ) → t < n → n ≤ boxes_of order → seed_in order n t ≡ seed_for (step_at order t)
@@ -185,15 +182,15 @@ seeded_offer order n t =
     record {
       kind = (turn_of order.kinds t).kind;
       instance = box_instance order.kinds t;
-      way = turned (seed_in order n t % at_least_one (length (share_of (kind_of order.kinds t).rule)));
+      way = turned (seed_in order n t % max (length (share_of (kind_of order.kinds t).rule)) 1);
     }
 
-one_least : (n : ℕ) → 0 < n → at_least_one n ≡ n
-one_least n h = rw (ne_eqb n 0 (λ e. omega arith))
+one_least : (n : ℕ) → 0 < n → max n 1 ≡ n
+one_least n h = omega arith
 
 module _ (order : Sheet) (a : Accepted order) (n : ℕ) (whole : n ≤ boxes_of order) where
   step_again : (t : ℕ) → t < n
-      → place_of (fill_to order t).stand (kind_of order.kinds t) (seed_in order n t % at_least_one (length (share_of (kind_of order.kinds t).rule)))
+      → place_of (fill_to order t).stand (kind_of order.kinds t) (seed_in order n t % max (length (share_of (kind_of order.kinds t).rule)) 1)
       ≡ step_at order t
   step_again t l =
       rw (seed_kept order a n t l whole, one_least (length (share_of (kind_of order.kinds t).rule)) (some_turn (kind_of order.kinds t).rule))
@@ -202,7 +199,7 @@ module _ (order : Sheet) (a : Accepted order) (n : ℕ) (whole : n ≤ boxes_of 
   offer_again : (t : ℕ) → t < n
       → offered (fill_to order t) order.kinds (seeded_offer order n t) ≡ offered (fill_to order t) order.kinds (best_offer order.kinds t)
   unfolding offered seeded_offer best_offer
-  offer_again t l = ap (λ (r : Step). took (fill_to order t) r (box_id order.kinds t) (box_instance order.kinds t)) (step_again t l)
+  offer_again t l = ap (λ (r : Option Step). took (fill_to order t) r (box_id order.kinds t) (box_instance order.kinds t)) (step_again t l)
 
   -- the same fill, box by box
   pub run_again : (k : ℕ) → k ≤ n → run_from (empty order.container) order.kinds (seeded_offer order n) k ≡ fill_to order k

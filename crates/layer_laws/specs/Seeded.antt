@@ -4,6 +4,7 @@
 use Rattle.std.specs.Prelude.{◌≡◌, false, List, ℕ, ◌+◌, ◌*◌, ◌/◌, ◌<◌, ◌≤◌, length, get_or}
 use Rattle.std.proofs.Math.Path.{refl, sym}
 use Rattle.std.proofs.Common.{◌∙◌, ap, le_refl, arith}
+use Rattle.std.proofs.Math.Nat.{min-le_right}
 use borrow.Author.Tests.{eq-eqb, lt-ltb, le-ltb, lt-leb}
 use Rattle.domain.specs.Bounds.{most_items, most_instances}
 use Rattle.lists.specs.Below.{any_below, none_any}
@@ -23,7 +24,7 @@ use Rattle.layer_instances.specs.Records.{records_in, is_stranger}
 use Rattle.plan_boxes.specs.Orders.{some_boxes, boxes_are}
 use Rattle.layer_plan.specs.Offers.{item_count, item_offer}
 use Rattle.layer_plan.specs.Run.{run_same}
-use Rattle.layer_plan.specs.Fills.{plan_from, layer_fill_of, items_refusal, place_items_of, smaller_le}
+use Rattle.layer_plan.specs.Fills.{plan_from, layer_fill_of, items_refusal, place_items_of}
 use Rattle.layer_instances.specs.Instances.{total, record_words, build_refusal, records_after, three}
 use Rattle.layer_seeds.specs.Seeds.{seed_of, seed_at, seed_refusal, seeds_after}
 use Rattle.layer_laws.specs.Made.{number, fill_plan, fill_made}
@@ -148,7 +149,7 @@ module _ (order : Sheet) (accept : sheet_refusal order ≡ 0) (consider : ℕ) (
   unfolding place_items_of
   placed_again e items h room are =
       let a = accepted order accept in
-      let l = smaller_le consider (total order) in
+      let l = min-le_right consider (total order) in
       let b = boxes_are order a in
       rw (eq-eqb (items_refusal order records items) 0 (no_refusal order accept records list items are.many), are.many)
       (ap (λ (f : LayerFill). plan_from order.kinds order.many.kinds f (number order consider))

@@ -3,8 +3,9 @@
 #![tactic(auto)]
 
 ghost use Rattle.std.specs.Prelude.{◌≡◌};
-ghost use Rattle.layer_lent.specs.Asked.{lengths_fault, asked_fault, asked_spot};
+ghost use Rattle.layer_lent.specs.Asked.{lengths_fault, asked_fault, asked_spot, after_asked};
 
+use domain::{Refusal, refuse};
 use layer_cursor::{LayerCursor, LayerSpot};
 use layer_state::Stand;
 use measures::Container;
@@ -14,14 +15,6 @@ use measures::Container;
 pub struct Asked {
     pub container: Container,
     pub size: [f64; 3],
-}
-
-// The refusal, 0 for none; and where the box goes with the cursor after it, or that it gets no place and the cursor as
-// it was, as after a refusal.
-#[derive(Clone, Copy)]
-pub struct Answer {
-    pub refused: u32,
-    pub spot: LayerSpot,
 }
 
 // Whether a length is out of range.
@@ -41,30 +34,24 @@ fn asked_fault(a: Asked) -> bool
 }
 
 // The answer for a cursor by value. Any floats may stand in the cursor: none of them is refused.
-fn asked_spot(c: LayerCursor, a: Asked) -> Answer
+fn asked_spot(c: LayerCursor, a: Asked) -> Result<Option<LayerSpot>, Refusal>
     ensures { result ≡ asked_spot c a }
 {
-    if asked_fault(a) {
-        let spot = LayerSpot {
-            fits: false,
-            at: [0.0, 0.0, 0.0],
-            next: c,
-        };
-        return Answer { refused: 3, spot };
-    }
+    refuse(asked_fault(a), Refusal::Measure)?;
     let container = a.container;
     let size = a.size;
     let stand = Stand::new(container);
     let max = stand.max;
-    let spot = layer_cursor::spot(container, max, c, size);
-    Answer { refused: 0, spot }
+    Ok(layer_cursor::spot(container, max, c, size))
 }
 
-// Moves a lent cursor on by one box.
-pub fn advance(c: &mut LayerCursor, a: Asked) -> Answer
-    ensures { (result ≡ asked_spot c.old a) × (c.new ≡ (asked_spot c.old a).spot.next) }
+// Moves a lent cursor on by one box: its spot, or none where it gets no place. Then, as after a refusal, the cursor is as it was.
+pub fn advance(c: &mut LayerCursor, a: Asked) -> Result<Option<LayerSpot>, Refusal>
+    ensures { (result ≡ asked_spot c.old a) × (c.new ≡ after_asked c.old (asked_spot c.old a)) }
 {
-    let p = asked_spot(*c, a);
-    *c = p.spot.next;
-    p
+    let Some(spot) = asked_spot(*c, a)? else {
+        return Ok(None);
+    };
+    *c = spot.next;
+    Ok(Some(spot))
 }

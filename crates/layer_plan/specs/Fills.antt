@@ -1,6 +1,7 @@
 -- The plans of the two runs, refusals included (packing_utils.rs, `layer_fill_in_order` and `layer_place_items`).
-use Rattle.std.specs.Prelude.{◌≡◌, cond, ◌||◌, List, ℕ, ◌≤◌, eqb, ltb}
+use Rattle.std.specs.Prelude.{◌≡◌, cond, ◌||◌, List, ℕ, ◌≤◌, eqb, ltb, min}
 use Rattle.std.proofs.Common.{arith, ltb-false}
+use Rattle.std.proofs.Math.Nat.{min-le_right}
 use Rattle.domain.specs.Bounds.{most_boxes, most_items, most_instances}
 use Rattle.lists.specs.Below.{any_below}
 use Rattle.domain.specs.Refusals.{when, or_else}
@@ -13,8 +14,6 @@ use Rattle.sheet.specs.Sheets.{boxes_in, sheet_refusal}
 use Rattle.sheet.specs.Accepted.{Accepted}
 use Rattle.layer_fill.specs.declared.LayerFill.{LayerFill}
 use Rattle.layer_state.specs.Stand.{fill_of}
-use Rattle.plan_sheet.specs.Boxes.{smaller}
-pub use Rattle.plan_sheet.specs.Boxes.{smaller_le}
 use Rattle.plan_sheet.specs.Plans.{Plan, refused_plan, planned_of}
 use Rattle.layer_instances.specs.Records.{records_in, is_stranger}
 use Rattle.plan_boxes.specs.Orders.{boxes_are}
@@ -33,7 +32,7 @@ plan_by b kinds m offer n = plan_from kinds m (run_by b kinds offer n) n
 unfoldable pub layer_fill_of : Sheet → ℕ → Plan
 layer_fill_of order consider =
     cond (eqb (sheet_refusal order) 0)
-    (plan_by order.container order.kinds order.many.kinds (best_offer order.kinds) (smaller consider (boxes_in order.kinds order.many.kinds)))
+    (plan_by order.container order.kinds order.many.kinds (best_offer order.kinds) (min consider (boxes_in order.kinds order.many.kinds)))
     (refused_plan (sheet_refusal order))
 
 -- in this order: 2 for too many items or records, what the order gets, 9 for a record of no kind of it. RULES: Refusals.
@@ -46,15 +45,15 @@ items_refusal order records items =
 unfoldable pub place_items_of : Sheet → List ℕ → List ℕ → ℕ → Plan
 place_items_of order records items consider =
     cond (eqb (items_refusal order records items) 0)
-    (plan_by order.container order.kinds order.many.kinds (item_offer records items) (smaller consider (item_count items)))
+    (plan_by order.container order.kinds order.many.kinds (item_offer records items) (min consider (item_count items)))
     (refused_plan (items_refusal order records items))
 
 -- ---- what is known of an accepted order
 
 -- no more boxes are considered than there may be
-pub turns_few : (order : Sheet) → Accepted order → (consider : ℕ) → smaller consider (boxes_in order.kinds order.many.kinds) ≤ most_boxes
+pub turns_few : (order : Sheet) → Accepted order → (consider : ℕ) → min consider (boxes_in order.kinds order.many.kinds) ≤ most_boxes
 turns_few order a consider =
-    let l = smaller_le consider (boxes_in order.kinds order.many.kinds) in
+    let l = min-le_right consider (boxes_in order.kinds order.many.kinds) in
     let e = boxes_are order a in
     let f = a.boxes_few in
     omega arith

@@ -1,11 +1,13 @@
 -- RULES: Second placer: items. Items of the order in a load file: the plan, and what the step of one item comes to.
-use Rattle.std.specs.Prelude.{◌≡◌, Bool, true, false, cond, ◌||◌, List, ltb, length, get_or}
+use Rattle.std.specs.Prelude.{◌≡◌, Bool, true, false, cond, ◌||◌, List, ltb, length, get_or, Option, None, Err, min}
 use Rattle.std.proofs.Math.Path.{refl}
 use Rattle.std.proofs.Common.{sym, ◌∙◌, ap, arith}
+use Rattle.std.proofs.Math.Nat.{min-le_right}
 use Prim.Native.Nat.{ℕ, zero, suc, ◌*◌, ◌<◌, ◌≤◌}
 use borrow.Author.Tests.{ne_eqb, ltb-false}
 use Rattle.domain.specs.Bounds.{most_boxes, most_items, most_instances}
 use Rattle.domain.specs.Refusals.{or_else}
+use Rattle.domain.specs.Refusal.{refusal_by, answer_with, answer_of}
 use Rattle.lists.specs.Bools.{or_left}
 use Rattle.lists.specs.Below.{any_below, any_none}
 use Rattle.measures.specs.declared.Kind.{Kind}
@@ -16,11 +18,10 @@ use Rattle.file_read.specs.Form.{right_shape, counts_of}
 use Rattle.file_read.specs.Reading.{sheet_of, refusal_of}
 use Rattle.file_read.specs.Refusal.{shape_refused, sheet_decides, sheet_sound}
 use Rattle.file_read.specs.Records.{Readable}
-use Rattle.plan_sheet.specs.Boxes.{smaller, smaller_le}
 use Rattle.plan_sheet.specs.Plans.{Plan, refused_plan}
 use Rattle.layer_state.specs.declared.stand.Stand.{Stand}
 use Rattle.layer_state.specs.declared.stand.Step.{Step}
-use Rattle.layer_state.specs.Stand.{no_step, place_of, place_stays}
+use Rattle.layer_state.specs.Stand.{place_of}
 use Rattle.layer_fill.specs.declared.LayerFill.{LayerFill}
 use Rattle.layer_fill.specs.Fill.{empty, took}
 use Rattle.layer_instances.specs.Records.{records_in, is_stranger, stranger_not}
@@ -40,20 +41,19 @@ fill_over s records items n = run_by s.container s.kinds (item_offer records ite
 
 -- ---- one item
 
--- what it comes to at a stand: no leaves the stand, and the fill after it is the fill after the offer
-pub record Tries (s : Stand) (kinds : List Kind) (o : Offer) (step : Step) (id instance : ℕ) : Type 0 where
-  pub stays : step.fits ≡ false → step ≡ no_step s
+-- what it comes to at a stand: the fill after it is the fill after the offer
+pub record Tries (s : Stand) (kinds : List Kind) (o : Offer) (step : Option Step) (id instance : ℕ) : Type 0 where
   pub took_is : (f : LayerFill) → f.stand ≡ s → took f step id instance ≡ offered f kinds o
 
 pub tries_turned : (s : Stand) (kinds : List Kind) (k : Kind) (i instance turn : ℕ) (o : Offer)
     → o ≡ record { kind = i; instance = instance; way = turned turn } → k ≡ get_or kinds i no_kind → Tries s kinds o (place_of s k turn) k.id instance
 unfolding offered
 tries_turned s kinds k i instance turn o e d =
-    record { stays = place_stays s k turn; took_is = λ f q. rw (e, d, q) }
+    record { took_is = λ f q. rw (e, d, q) }
 
-pub tries_skipped : (s : Stand) (kinds : List Kind) (o : Offer) → o ≡ no_offer → Tries s kinds o (no_step s) 0 0
+pub tries_skipped : (s : Stand) (kinds : List Kind) (o : Offer) → o ≡ no_offer → Tries s kinds o None 0 0
 unfolding offered took
-tries_skipped s kinds o e = record { stays = λ _. refl; took_is = λ f q. rw e }
+tries_skipped s kinds o e = record { took_is = λ f q. rw e }
 
 -- ---- what the loop over n items relies on
 pub record Fit (f records items : List ℕ) (n : ℕ) : Type 0 where
@@ -63,9 +63,9 @@ pub record Fit (f records items : List ℕ) (n : ℕ) : Type 0 where
   pub of_kind : (p : ℕ) → p < records_in records → get_or records (p * 3) 0 < (counts_of f).kinds
 
 pub fit : (f records items : List ℕ) (consider m : ℕ) → Readable f → item_count items ≤ most_items → m ≡ (counts_of f).kinds
-    → any_below (is_stranger records m) (records_in records) ≡ false → Fit f records items (smaller consider (item_count items))
+    → any_below (is_stranger records m) (records_in records) ≡ false → Fit f records items (min consider (item_count items))
 fit f records items consider m r few e known =
-    let l = smaller_le consider (item_count items) in
+    let l = min-le_right consider (item_count items) in
     record {
       can_read = r;
       few = omega arith;
@@ -96,20 +96,29 @@ items_over f records items consider h = go (right_shape f) refl
     go true e = planned_right f records items consider 2 e (rw h) (λ z. omega arith)
     go false e = planned_wrong f records items consider e
 
+-- which is told so
+pub over_told : {A : Type 0} (f : List ℕ) (u : A) → Err (refusal_by (over_number f) 0) ≡ answer_of (over_number f) u
+unfolding over_number answer_with
+over_told f u = go (right_shape f)
+  where
+    go : (b : Bool) → Err (refusal_by (cond b 2 1) 0) ≡ answer_of (cond b 2 1) u
+    go true = refl
+    go false = refl
+
 module _ (f records items : List ℕ) (consider : ℕ) (few : over records items ≡ false) where
-  pub items_refused : (r : ℕ) → r ≡ refusal_of f → (r ≡ 0 → ⊥) → items_in f records items consider ≡ refused_plan r
+  pub items_refused : (refusal_of f ≡ 0 → ⊥) → items_in f records items consider ≡ refused_plan (refusal_of f)
   unfolding items_refusal or_else
-  items_refused r e some = go (right_shape f) refl
+  items_refused some = go (right_shape f) refl
     where
       first : (n : ℕ) (y : ℕ) → (n ≡ 0 → ⊥) → or_else n y ≡ n
       first zero y z = absurd (z refl)
       first (suc n) y z = refl
 
-      go : (b : Bool) → right_shape f ≡ b → items_in f records items consider ≡ refused_plan r
+      go : (b : Bool) → right_shape f ≡ b → items_in f records items consider ≡ refused_plan (refusal_of f)
       go true s =
-          let d : sheet_refusal (sheet_of f) ≡ r = sym (e ∙ sheet_decides f s) in
-          planned_right f records items consider r s (rw (few, d) (first r _ some)) some
-      go false s = planned_wrong f records items consider s ∙ ap refused_plan (sym (e ∙ shape_refused f s))
+          let d : sheet_refusal (sheet_of f) ≡ refusal_of f = sym (sheet_decides f s) in
+          planned_right f records items consider (refusal_of f) s (rw (few, d) (first (refusal_of f) _ some)) some
+      go false s = planned_wrong f records items consider s ∙ ap refused_plan (sym (shape_refused f s))
 
   module _ (z : refusal_of f ≡ 0) (shape : right_shape f ≡ true) where
     pub items_strange : any_below (is_stranger records (sheet_of f).many.kinds) (records_in records) ≡ true → items_in f records items consider ≡ refused_plan 9
@@ -118,14 +127,14 @@ module _ (f records items : List ℕ) (consider : ℕ) (few : over records items
 
     pub items_made : any_below (is_stranger records (sheet_of f).many.kinds) (records_in records) ≡ false
         → Made (items_in f records items consider)
-        (fill_over (sheet_of f) records items (smaller consider (item_count items)))
-        (smaller consider (item_count items))
+        (fill_over (sheet_of f) records items (min consider (item_count items)))
+        (min consider (item_count items))
     unfolding items_in place_items_of items_refusal or_else
     items_made s =
         let o = sheet_of f in
-        let n = smaller consider (item_count items) in
+        let n = min consider (item_count items) in
         let a = accepted o (sheet_sound f z) in
-        let l = smaller_le consider (item_count items) in
+        let l = min-le_right consider (item_count items) in
         let m = ltb-false most_items (item_count items) (or_left (ltb most_items (item_count items)) _ few) in
         let c = run_few (empty o.container) o.kinds (item_offer records items) n in
         rw (shape, few, sheet_sound f z, s)

@@ -1,7 +1,7 @@
--- The layer placer's plan of an order and of given items, and the columns that it is laid in.
+-- The layer placer's plan of an order and of given items, and the lines that it is laid in.
 pub mod Offers
 pub mod Run
 pub mod Fills
-pub mod Columns
+pub mod Shown
 pub mod Laid
 pub mod Items

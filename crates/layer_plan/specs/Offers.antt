@@ -1,9 +1,8 @@
 -- What a run offers to the fill, turn by turn: a whole order's boxes, or given items.
-use Rattle.std.specs.Prelude.{cond, List, ℕ, ◌+◌, ◌*◌, ◌/◌, ◌%◌, ltb, length, get_or}
+use Rattle.std.specs.Prelude.{cond, List, ℕ, ◌+◌, ◌*◌, ◌/◌, ◌%◌, ltb, length, get_or, max}
 use Rattle.measures.specs.declared.Kind.{Kind}
 use Rattle.plan_boxes.specs.declared.Instance.{Instance}
 use Rattle.plan_boxes.specs.Turns.{turn_of}
-use Rattle.layer_fitness.specs.Fitness.{at_least_one}
 use Rattle.layer_instances.specs.Records.{records_in}
 
 -- how a box may be turned: it is not offered at all, in one orientation, or in its best one
@@ -36,7 +35,7 @@ item_count items = length items / 2
 -- the instance of record p, its orientation the item's index modulo the record's own count, which counts as 1 where it is 0
 abbrev pub record_offer : List ℕ → ℕ → ℕ → Offer
 record_offer records p o =
-    record { kind = get_or records (p * 3) 0; instance = get_or records (p * 3 + 1) 0; way = turned (o % at_least_one (get_or records (p * 3 + 2) 0)) }
+    record { kind = get_or records (p * 3) 0; instance = get_or records (p * 3 + 1) 0; way = turned (o % max (get_or records (p * 3 + 2) 0) 1) }
 
 -- an item whose place is past the instance list is skipped. RULES: Second placer: items.
 unfoldable pub item_offer : List ℕ → List ℕ → ℕ → Offer

@@ -1,21 +1,20 @@
 -- A run: offers one after the other, each to the fill that the ones before it left.
-use Rattle.std.specs.Prelude.{◌≡◌, refl, Bool, cond, List, ℕ, zero, suc, ◌+◌, ◌<◌, ◌≤◌, get_or}
+use Rattle.std.specs.Prelude.{◌≡◌, refl, List, ℕ, zero, suc, ◌+◌, ◌<◌, ◌≤◌, get_or, Option, Some, None}
 use Rattle.std.proofs.Common.{◌∙◌, ap, le_refl, arith}
-use Rattle.lists.specs.Bools.{cond_keeps}
 use Rattle.measures.specs.declared.Container.{Container}
 use Rattle.measures.specs.declared.Kind.{Kind}
 use Rattle.sheet.specs.Sheets.{no_kind}
 use Rattle.layer_state.specs.declared.stand.Stand.{Stand}
 use Rattle.layer_state.specs.declared.stand.Step.{Step}
 use Rattle.layer_fill.specs.declared.LayerFill.{LayerFill}
-use Rattle.layer_state.specs.Stand.{no_step, place_of}
+use Rattle.layer_state.specs.Stand.{place_of}
 use Rattle.layer_state.specs.Best.{place_best_of}
 use Rattle.layer_fill.specs.Fill.{empty, took}
 use Rattle.layer_plan.specs.Offers.{Offer, Way, skip, turned, best}
 
 -- what the fill makes of an offer
-abbrev pub step_by : Stand → Kind → Way → Step
-step_by s k skip = no_step s
+abbrev pub step_by : Stand → Kind → Way → Option Step
+step_by s k skip = None
 step_by s k (turned o) = place_of s k o
 step_by s k best = place_best_of s k
 
@@ -34,15 +33,17 @@ abbrev pub run_by : Container → List Kind → (ℕ → Offer) → ℕ → Laye
 run_by b kinds offer n = run_from (empty b) kinds offer n
 
 -- how many lines there are after a box
-abbrev pub count_after : Bool → ℕ → ℕ
-count_after fits n = cond fits (n + 1) n
+abbrev pub count_after : Option Step → ℕ → ℕ
+count_after None n = n
+count_after (Some s) n = n + 1
 
 -- ---- laws
 
 -- each offer adds at most one line
-took_few : (f : LayerFill) (s : Step) (id instance : ℕ) → (took f s id instance).count ≤ f.count + 1
+took_few : (f : LayerFill) (s : Option Step) (id instance : ℕ) → (took f s id instance).count ≤ f.count + 1
 unfolding took
-took_few f s id instance = cond_keeps (λ (g : LayerFill). g.count ≤ f.count + 1) s.fits (le_refl (f.count + 1)) (omega arith)
+took_few f None id instance = omega arith
+took_few f (Some s) id instance = le_refl (f.count + 1)
 
 offered_few : (f : LayerFill) (kinds : List Kind) (o : Offer) → (offered f kinds o).count ≤ f.count + 1
 unfolding offered

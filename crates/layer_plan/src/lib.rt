@@ -1,4 +1,4 @@
-// The plan that the layer placer makes of the order in a load file, and of given items of it, laid in lent columns (packing_utils.rs,
+// The plan that the layer placer makes of the order in a load file, and of given items of it, laid in lent memory (packing_utils.rs,
 // `layer_fill_in_order` and `layer_place_items`).
 
 #![tactic(auto)]

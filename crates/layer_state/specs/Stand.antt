@@ -1,7 +1,7 @@
 -- A fill without its placements: the mass rule, and one box offered in one orientation.
-use Rattle.std.specs.Prelude.{◌≡◌, refl, Bool, true, false, cond, not, ◌&&◌, ◌||◌, List, [], ◌∷◌, ℕ, Float}
+use Rattle.std.specs.Prelude.{◌≡◌, refl, Bool, cond, not, ◌&&◌, ◌||◌, [], ◌∷◌, ℕ, Option, Some, None, option_map, Float}
 use Rattle.std.specs.Float.Ieee.{lt, le}
-use Rattle.floats.specs.Ops.{◌⊕◌, ◌⊖◌, ◌⊘◌, none, nowhere, x, y, z}
+use Rattle.floats.specs.Ops.{◌⊕◌, ◌⊖◌, ◌⊘◌, none, x, y, z}
 use Rattle.measures.specs.declared.Container.{Container}
 use Rattle.measures.specs.declared.Kind.{Kind}
 use Rattle.measures.specs.Asked.{has_mass}
@@ -29,7 +29,7 @@ abbrev pub mass_allows : Stand → Kind → Bool
 mass_allows s k = not (lt none s.container.limit && has_mass k.massed) || le (s.mass ⊕ k.mass) s.container.limit
 
 -- where a box of this kind would go in an orientation
-abbrev pub spot_in : Stand → Kind → ℕ → LayerSpot
+abbrev pub spot_in : Stand → Kind → ℕ → Option LayerSpot
 spot_in s k o = spot_of s.container s.max s.cursor (lengths_in k o)
 
 -- The stand with a box on a spot. This placer adds the product of the kind's lengths as they are given, whichever way the box is turned; the mass of
@@ -38,38 +38,31 @@ abbrev pub committed : Stand → Kind → LayerSpot → Stand
 committed s k p =
     record { container = s.container; max = s.max; cursor = p.next; volume = s.volume ⊕ volume k.size; mass = s.mass ⊕ k.mass }
 
--- no, and everything stays
-abbrev pub no_step : Stand → Step
-no_step s = record { fits = false; orientation = 0; at = nowhere; next = s }
+-- the step of a box on a spot
+abbrev pub step_on : Stand → Kind → ℕ → LayerSpot → Step
+step_on s k o p = record { orientation = o; at = p.at; next = committed s k p }
 
-unfoldable pub settled : Stand → Kind → ℕ → LayerSpot → Step
-settled s k o p = cond p.fits (record { fits = true; orientation = o; at = p.at; next = committed s k p }) (no_step s)
+-- no spot, no step
+unfoldable pub settled : Stand → Kind → ℕ → Option LayerSpot → Option Step
+settled s k o p = option_map (step_on s k o) p
 
 -- a box turned to an orientation, with no regard to mass
-abbrev pub turned_of : Stand → Kind → ℕ → Step
+abbrev pub turned_of : Stand → Kind → ℕ → Option Step
 turned_of s k o = settled s k o (spot_in s k o)
 
 -- the mass is tested before a spot is looked for. RULES: Second placer: mass.
-unfoldable pub place_of : Stand → Kind → ℕ → Step
-place_of s k o = cond (mass_allows s k) (turned_of s k o) (no_step s)
+unfoldable pub place_of : Stand → Kind → ℕ → Option Step
+place_of s k o = cond (mass_allows s k) (turned_of s k o) None
 
 -- the utilization: the share of the container's volume that the placed boxes have
 abbrev pub fill_of : Stand → Float
 fill_of s = s.volume ⊘ volume s.container.size
 
--- ---- no leaves everything as it was: a step that doesn't fit is `no_step`
+-- the stand after an offer: behind the box, or as it was
+abbrev pub after_step : Stand → Option Step → Stand
+after_step s None = s
+after_step s (Some r) = r.next
 
--- it stays so under a test that may say no first
-pub ruled_stays : (s : Stand) (r : Step) (b : Bool) → (r.fits ≡ false → r ≡ no_step s)
-    → (cond b r (no_step s)).fits ≡ false → cond b r (no_step s) ≡ no_step s
-ruled_stays s r true f h = f h
-ruled_stays s r false f h = refl
-
-pub turned_stays : (s : Stand) (k : Kind) (o : ℕ) → (turned_of s k o).fits ≡ false → turned_of s k o ≡ no_step s
-unfolding settled
-turned_stays s k o =
-    ruled_stays s (record { fits = true; orientation = o; at = (spot_in s k o).at; next = committed s k (spot_in s k o) }) (spot_in s k o).fits (λ h. cc)
-
-pub place_stays : (s : Stand) (k : Kind) (o : ℕ) → (place_of s k o).fits ≡ false → place_of s k o ≡ no_step s
-unfolding place_of
-place_stays s k o = ruled_stays s (turned_of s k o) (mass_allows s k) (turned_stays s k o)
+-- ---- no leaves everything as it was
+pub place_stays : (s : Stand) (k : Kind) (o : ℕ) → place_of s k o ≡ None → after_step s (place_of s k o) ≡ s
+place_stays s k o e = rw e refl

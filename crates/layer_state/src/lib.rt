@@ -6,4 +6,5 @@
 mod best;
 mod stand;
 
-pub use stand::{Stand, Step, no_step};
+pub use best::Best;
+pub use stand::{Stand, Step};

@@ -1,6 +1,6 @@
 // A fill without its placements: what a box offered to it needs to know, and what a box placed in it moves.
 ghost use Rattle.std.specs.Prelude.{◌≡◌};
-ghost use Rattle.layer_state.specs.Stand.{new_of, mass_allows, committed, no_step, settled, turned_of, place_of, fill_of};
+ghost use Rattle.layer_state.specs.Stand.{new_of, mass_allows, committed, turned_of, place_of, fill_of};
 
 use layer_cursor::{LayerCursor, LayerSpot, spot};
 use measures::{Container, Kind};
@@ -15,69 +15,12 @@ pub struct Stand {
     pub mass: f64,
 }
 
-// What an offer of one box comes to: its orientation, its position and the stand after it; or no, and the stand as it was.
+// What an offer of a box that fits comes to: its orientation, its position and the stand after it. Where it gets no there is none, and the stand stays.
 #[derive(Clone, Copy)]
 pub struct Step {
-    pub fits: bool,
     pub orientation: u32,
     pub at: [f64; 3],
     pub next: Stand,
-}
-
-// Whether a kind would still keep the load within the container's mass.
-pub(crate) fn mass_allows(stand: Stand, kind: Kind) -> bool
-    ensures { result ≡ mass_allows stand kind }
-{
-    let container = stand.container;
-    let limit = container.limit;
-    !((0.0 < limit) & measures::has_mass(kind.massed)) | (stand.mass + kind.mass <= limit)
-}
-
-// The stand with a box of this kind on a spot.
-fn commit(stand: Stand, kind: Kind, spot: LayerSpot) -> Stand
-    ensures { result ≡ committed stand kind spot }
-{
-    let size = kind.size;
-    let volume = measures::measure(size);
-    let container = stand.container;
-    let max = stand.max;
-    let cursor = spot.next;
-    Stand {
-        container,
-        max,
-        cursor,
-        volume: stand.volume + volume,
-        mass: stand.mass + kind.mass,
-    }
-}
-
-// No, and everything stays.
-pub fn no_step(stand: Stand) -> Step
-    ensures { result ≡ no_step stand }
-{
-    Step {
-        fits: false,
-        orientation: 0,
-        at: [0.0, 0.0, 0.0],
-        next: stand,
-    }
-}
-
-// The answer to an offer whose spot is known.
-fn settle(stand: Stand, kind: Kind, orientation: u32, spot: LayerSpot) -> Step
-    ensures { result ≡ settled stand kind orientation spot }
-{
-    if spot.fits {
-        let next = commit(stand, kind, spot);
-        let at = spot.at;
-        return Step {
-            fits: true,
-            orientation,
-            at,
-            next,
-        };
-    }
-    no_step(stand)
 }
 
 impl Stand {
@@ -87,40 +30,64 @@ impl Stand {
     {
         let size = container.size;
         let m = container.margin;
-        let max = [size[0] - m, size[1] - m, size[2] - m];
-        let cursor = LayerCursor {
-            x: m,
-            y: m,
-            z: m,
-            depth: 0.0,
-            height: 0.0,
-        };
         Stand {
             container,
-            max,
-            cursor,
+            max: [size[0] - m, size[1] - m, size[2] - m],
+            cursor: LayerCursor {
+                x: m,
+                y: m,
+                z: m,
+                depth: 0.0,
+                height: 0.0,
+            },
             volume: 0.0,
             mass: 0.0,
         }
     }
 
+    // Whether a kind would still keep the load within the container's mass.
+    pub(crate) fn mass_allows(self, kind: Kind) -> bool
+        ensures { result ≡ mass_allows self kind }
+    {
+        let limit = self.container.limit;
+        !((0.0 < limit) & measures::has_mass(kind.massed)) | (self.mass + kind.mass <= limit)
+    }
+
+    // The stand with a box of this kind on a spot.
+    fn committed(self, kind: Kind, spot: LayerSpot) -> Stand
+        ensures { result ≡ committed self kind spot }
+    {
+        let size = kind.size;
+        Stand {
+            cursor: spot.next,
+            volume: self.volume + measures::measure(size),
+            mass: self.mass + kind.mass,
+            ..self
+        }
+    }
+
     // A box of a kind turned to an orientation, with no regard to mass.
-    pub(crate) fn place_turned(self, kind: Kind, orientation: u32) -> Step
+    #[tactic(auto, unfolding(crate::specs::Stand::settled))]
+    pub(crate) fn place_turned(self, kind: Kind, orientation: u32) -> Option<Step>
         ensures { result ≡ turned_of self kind orientation }
     {
         let size = measures::dimensions_for_orientation(kind, orientation);
-        let container = self.container;
-        let max = self.max;
-        let cursor = self.cursor;
-        settle(self, kind, orientation, spot(container, max, cursor, size))
+        let spot = spot(self.container, self.max, self.cursor, size)?;
+        let at = spot.at;
+        Some(Step {
+            orientation,
+            at,
+            next: self.committed(kind, spot),
+        })
     }
 
     // A box of a kind, in one orientation.
-    pub fn place(self, kind: Kind, orientation: u32) -> Step
+    #[tactic(auto, unfolding(crate::specs::Stand::place_of))]
+    pub fn place(self, kind: Kind, orientation: u32) -> Option<Step>
         ensures { result ≡ place_of self kind orientation }
     {
-        if !mass_allows(self, kind) {
-            return no_step(self);
+        if !self.mass_allows(kind) {
+            return None;
         }
         self.place_turned(kind, orientation)
     }
@@ -129,8 +96,6 @@ impl Stand {
     pub fn utilization(self) -> f64
         ensures { result ≡ fill_of self }
     {
-        let container = self.container;
-        let size = container.size;
-        self.volume / measures::measure(size)
+        self.volume / measures::measure(self.container.size)
     }
 }

@@ -1,28 +1,27 @@
 -- The lengths in all six axis orders, and an orientation's among them.
-use Rattle.std.specs.Prelude.{◌≡◌, refl, cond, List, [], ◌∷◌, ◌++◌, ℕ, zero, suc, ◌+◌, ◌*◌, ◌<◌, ltb, length, get_or, Float}
+use Rattle.std.specs.Prelude.{◌≡◌, refl, cond, List, [], ◌∷◌, ℕ, zero, suc, ◌<◌, ltb, length, get_or, Float}
 use Rattle.std.proofs.Common.{arith}
-use Rattle.std.specs.Float.{nan}
 use Rattle.measures.specs.declared.Kind.{Kind}
 use Rattle.measures.specs.Orders.{orders, share_of, turned, lengths_in}
 
 -- row by row of the table
-abbrev pub all_turned : List Float → List Float
+abbrev pub all_turned : List Float → List (List Float)
 all_turned size =
-    turned size (get_or orders 0 []) ++
-    (turned size (get_or orders 1 []) ++
-    (turned size (get_or orders 2 []) ++ (turned size (get_or orders 3 []) ++ (turned size (get_or orders 4 []) ++ turned size (get_or orders 5 [])))))
-
--- row k of them
-abbrev pub row_among : List Float → ℕ → List Float
-row_among all k = get_or all (k * 3) nan ∷ get_or all (k * 3 + 1) nan ∷ get_or all (k * 3 + 2) nan ∷ []
+    turned size (get_or orders 0 [])
+    ∷ turned size (get_or orders 1 [])
+    ∷ turned size (get_or orders 2 [])
+    ∷ turned size (get_or orders 3 [])
+    ∷ turned size (get_or orders 4 [])
+    ∷ turned size (get_or orders 5 [])
+    ∷ []
 
 -- RULES: Orientation. Past what the rule allows the box is unrotated.
-unfoldable pub lengths_among : List Float → List Float → ℕ → ℕ → List Float
-lengths_among all size rule i = cond (ltb i (length (share_of rule))) (row_among all (get_or (share_of rule) i 0)) size
+unfoldable pub lengths_among : List (List Float) → List Float → ℕ → ℕ → List Float
+lengths_among all size rule i = cond (ltb i (length (share_of rule))) (get_or all (get_or (share_of rule) i 0) []) size
 
 -- ---- they are the lengths in that orientation
 
-row_same : (size : List Float) (k : ℕ) → k < 6 → row_among (all_turned size) k ≡ turned size (get_or orders k [])
+row_same : (size : List Float) (k : ℕ) → k < 6 → get_or (all_turned size) k [] ≡ turned size (get_or orders k [])
 row_same size zero h = refl
 row_same size (suc zero) h = refl
 row_same size (suc (suc zero)) h = refl

@@ -7,10 +7,14 @@ ghost use Rattle.measures.specs.Orders.{orders, share_of, turned, lengths_in};
 ghost use Rattle.measures.specs.Among.{all_turned, lengths_among};
 ghost use Rattle.measures.specs.Volume.{volume};
 ghost use Rattle.measures.specs.Asked.{has_mass};
+ghost use Rattle.domain.specs.Refusal.{answer_of};
 ghost use Rattle.measures.specs.Faults.{record_fault, measure_fault, kind_fault, container_fault};
+
+use domain::{Refusal, refuse};
 
 // A kind of box, field by field as a kind record of the load file. `rule` is 0 for any orientation, 1 for upright and 2
 // for fixed; `massed` is 1 where the kind has a mass; `filler` is what the record's last two bytes hold.
+// Stays: rule, massed and filler are numbers, as refusal 4 is given for values of them that no enum or Option has (measures: record_fault).
 #[derive(Clone, Copy)]
 pub struct Kind {
     pub id: u32,
@@ -32,7 +36,7 @@ pub struct Container {
 }
 
 // The six axis orders.
-const ORDERS: [[u8; 3]; 6] = [
+const ORDERS: [[usize; 3]; 6] = [
     [0, 1, 2],
     [0, 2, 1],
     [1, 0, 2],
@@ -40,9 +44,6 @@ const ORDERS: [[u8; 3]; 6] = [
     [2, 0, 1],
     [2, 1, 0],
 ];
-
-// Three lengths in each of the six orders.
-pub const SIX: usize = 18;
 
 // How many orientations a rule allows. No accepted kind has a rule past 2; such a one counts as fixed.
 pub fn allowed_orientations(rule: u8) -> usize
@@ -74,7 +75,7 @@ fn axis(k: usize, j: usize) -> usize
     requires { (k < 6) × (j < 3) }
     ensures { (result ≡ get_or (get_or orders k []) j 0) × (result < 3) }
 {
-    ORDERS[k][j] as usize
+    ORDERS[k][j]
 }
 
 // The lengths with their axes in the order of row k.
@@ -102,31 +103,28 @@ pub fn dimensions_for_orientation(kind: Kind, orientation: u32) -> [f64; 3]
 }
 
 // The lengths in all six axis orders, row by row.
-pub fn all_turned(size: [f64; 3]) -> [f64; SIX]
+pub fn all_turned(size: [f64; 3]) -> [[f64; 3]; 6]
     ensures { result ≡ all_turned size }
 {
-    let a = turned(size, 0);
-    let b = turned(size, 1);
-    let c = turned(size, 2);
-    let d = turned(size, 3);
-    let e = turned(size, 4);
-    let f = turned(size, 5);
     [
-        a[0], a[1], a[2], b[0], b[1], b[2], c[0], c[1], c[2], d[0], d[1], d[2], e[0], e[1], e[2],
-        f[0], f[1], f[2],
+        turned(size, 0),
+        turned(size, 1),
+        turned(size, 2),
+        turned(size, 3),
+        turned(size, 4),
+        turned(size, 5),
     ]
 }
 
 // The lengths in an orientation by those in all six orders: quicker for one who asks for a kind's orientations in turn.
-pub fn dimensions_among(all: &[f64; SIX], size: [f64; 3], rule: u8, orientation: u32) -> [f64; 3]
+pub fn dimensions_among(all: &[[f64; 3]; 6], size: [f64; 3], rule: u8, orientation: u32) -> [f64; 3]
     ensures { result ≡ lengths_among all.now size rule orientation }
 {
     let o = orientation as usize;
     if allowed_orientations(rule) <= o {
         return size;
     }
-    let at = share(rule, o) * 3;
-    [all[at], all[at + 1], all[at + 2]]
+    all[share(rule, o)]
 }
 
 // Whether a box has a mass, by the flag of its kind.
@@ -162,14 +160,13 @@ fn measure_fault(k: Kind) -> bool
             | (!domain::is_length(size[2]) | !domain::is_measure(k.mass)))
 }
 
-// The refusal that a kind gets, 0 for none: 4, then 3, then 5 where its id repeats an earlier kind's.
-pub fn kind_fault(k: Kind, repeats: bool) -> u32
-    ensures { result ≡ kind_fault k repeats }
+// What a kind is refused for: 4, then 3, then 5 where its id repeats an earlier kind's.
+pub fn kind_fault(k: Kind, repeats: bool) -> Result<(), Refusal>
+    ensures { result ≡ answer_of (kind_fault k repeats) tt }
 {
-    let record = domain::given(record_fault(k), 4);
-    let range = domain::given(measure_fault(k), 3);
-    let id = domain::given(repeats, 5);
-    domain::or_else(record, domain::or_else(range, id))
+    refuse(record_fault(k), Refusal::Record)?;
+    refuse(measure_fault(k), Refusal::Measure)?;
+    refuse(repeats, Refusal::Repeated)
 }
 
 // Whether a container gets refusal 3.

@@ -2,12 +2,12 @@
 use Rattle.std.specs.Prelude.{◌≡◌, refl}
 use Rattle.std.proofs.Common.{sym, ◌∙◌, ap₂}
 use seplogic.Ra.Ura.{Ura}
-use base.Logic.{SProp, ent, emp}
+use base.Logic.{SProp, ent, sep, emp, via, fst∗, snd∗}
 use prog.Memory.{Memory}
 use prog.Routine.{Routine}
 use types.Logic.{Logic}
 use contract.Monad.{Fun, conj, fact, fact_use, fact_i}
-use contract.Conj.{conj_l, conj_r}
+use contract.Conj.{conj_l, conj_r, conj_mono}
 use contract.Lifetimes.{Lfts}
 use denote.Triple.Entry.{Res}
 use denote.Triple.Clauses.{Ended, ClausesAt, AtExit}
@@ -73,3 +73,21 @@ module _ {M : Type 1} (𝓤 : Ura M) {T : Ended} {κs : Lfts T.signature.lifetim
   lent_two seen also v w u free says =
       told (pair_of seen also) (λ r x. (r ≡ v) × (x.0 ≡ w) × (x.1 ≡ u)) free says
       (λ r s x y p q. (p.0 ∙ sym q.0, ap₂ (λ a b. (a, b)) (p.1 ∙ sym q.1) (p.2 ∙ sym q.2)))
+
+  -- two facts that are stated side by side
+  beside : (φ ψ : Type 0) → ent 𝓤 (sep 𝓤 (fact 𝓤 φ) (fact 𝓤 ψ)) (fact 𝓤 (φ × ψ))
+  beside φ ψ =
+      fact_use 𝓤 φ (fst∗ 𝓤 (fact 𝓤 φ) (fact 𝓤 ψ))
+      (λ x. fact_use 𝓤 ψ (snd∗ 𝓤 (fact 𝓤 φ) (fact 𝓤 ψ)) (λ y. fact_i 𝓤 (φ × ψ) _ (x, y)))
+
+  -- .. of the result in one clause, and of the lent cells in another
+  pub lent_apart : {X : Type 0} (seen : AtExit T κs → X) (v : Res T.signature κs) (w : X) → Free
+      → ((g : c.ghost) (r : Res T.signature κs) (e : AtExit T κs) → c.ensures g r e ≡ sep 𝓤 (fact 𝓤 (r ≡ v)) (fact 𝓤 (seen e ≡ w)))
+      → Settles seen
+  lent_apart seen v w free says = record {
+    free = free;
+    one = λ g r s d e.
+        rw (says g r d, says g s e)
+        (via 𝓤 _ (conj_mono 𝓤 (beside (r ≡ v) (seen d ≡ w)) (beside (s ≡ v) (seen e ≡ w)))
+        (agree _ _ _ (λ p q. (p.0 ∙ sym q.0, p.1 ∙ sym q.1))));
+  }

@@ -3,13 +3,13 @@ use Rattle.std.specs.Prelude.{refl}
 use seplogic.Ra.Ura.{Ura}
 use Rattle.one_result.specs.Law.{World, Settles, nothing, plain}
 use Rattle.check_pair.specs.contracts.tolerance as tolerance
-use Rattle.check_pair.specs.contracts.judge as judge
-use Rattle.check_pair.specs.contracts.hint as hint
-use Rattle.check_pair.specs.contracts.limit as limit
-use Rattle.check_pair.specs.contracts.is_far as is-far
-use Rattle.check_pair.specs.contracts.close as close
-use Rattle.check_pair.specs.contracts.is_found as is_found
-use Rattle.check_pair.specs.contracts.is_spanned as is-spanned
+use Rattle.check_pair.specs.contracts.Clearance.judge as judge
+use Rattle.check_pair.specs.contracts.Extent.hint as hint
+use Rattle.check_pair.specs.contracts.Clearance.limit as limit
+use Rattle.check_pair.specs.contracts.Extent.is_far as is-far
+use Rattle.check_pair.specs.contracts.Clearance.close as close
+use Rattle.check_pair.specs.contracts.Clearance.is_found as is_found
+use Rattle.check_pair.specs.contracts.Extent.spans as spans
 
 module _ {M : Type 1} (𝓤 : Ura M) (w : World 𝓤) where
   pub tolerance_one : (κs : _) (args : _) → Settles 𝓤 (tolerance.clauses w.𝓛 w.mem w.run κs args) nothing
@@ -33,5 +33,5 @@ module _ {M : Type 1} (𝓤 : Ura M) (w : World 𝓤) where
   pub is_found_one : (κs : _) (args : _) → Settles 𝓤 (is_found.clauses w.𝓛 w.mem w.run κs args) nothing
   is_found_one κs args = plain 𝓤 _ _ (λ _. refl) (λ _ _ _. refl)
 
-  pub is_spanned_one : (κs : _) (args : _) → Settles 𝓤 (is-spanned.clauses w.𝓛 w.mem w.run κs args) nothing
-  is_spanned_one κs args = plain 𝓤 _ _ (λ _. refl) (λ _ _ _. refl)
+  pub spans_one : (κs : _) (args : _) → Settles 𝓤 (spans.clauses w.𝓛 w.mem w.run κs args) nothing
+  spans_one κs args = plain 𝓤 _ _ (λ _. refl) (λ _ _ _. refl)

@@ -3,7 +3,7 @@ use Rattle.std.specs.Prelude.{◌≡◌, refl}
 use Rattle.std.proofs.Common.{sym, ◌∙◌}
 use seplogic.Ra.Ura.{Ura}
 use Rattle.one_result.specs.Law.{World, Settles, told}
-use Rattle.point_grow.specs.Grow.{restock_of, box_in}
+use Rattle.point_grow.specs.Grow.{restock_of, put_box}
 use Rattle.point_grow.specs.Told.{Stocked}
 use Rattle.point_grow.specs.contracts.restock as restock
 use Rattle.point_grow.specs.contracts.put_box as put-box
@@ -23,5 +23,5 @@ module _ {M : Type 1} (𝓤 : Ura M) (w : World 𝓤) where
 
   pub put_box_one : (κs : _) (args : _) → Settles 𝓤 (put-box.clauses w.𝓛 w.mem w.run κs args) (λ e. e.0.now)
   put_box_one κs args =
-      told 𝓤 _ _ (λ r x. x ≡ box_in args.0.now args.1.0 args.1.1.0 args.1.1.1.0)
+      told 𝓤 _ _ (λ r x. x ≡ put_box args.0.now args.1.0 args.1.1.0 args.1.1.1.0)
       (λ _. refl) (λ _ _ _. refl) (λ r s x y p q. (refl, p ∙ sym q))

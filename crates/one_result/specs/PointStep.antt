@@ -1,22 +1,13 @@
 -- The public call of the crate point_step: its contract settles it.
-use Rattle.std.specs.Prelude.{◌≡◌, refl, Bool, ℕ}
-use Rattle.std.proofs.Common.{sym, ◌∙◌, ap, ap₂}
+use Rattle.std.specs.Prelude.{◌≡◌, refl}
+use Rattle.std.proofs.Common.{sym, ◌∙◌, ap₂}
 use seplogic.Ra.Ura.{Ura}
-use Rattle.point_step.specs.declared.Stood.{Stood}
 use Rattle.point_step.specs.Step.{stores, StepIs}
 use Rattle.one_result.specs.Law.{World, Settles, pair_of, told}
 use Rattle.point_step.specs.contracts.step as step
 
 both : {A B : Type 0} {a d : A} {b e : B} → a ≡ d → b ≡ e → ◌≡◌ {A = A × B} (a, b) (d, e)
 both p q = ap₂ (λ a b. (a, b)) p q
-
-abbrev stood : Bool → ℕ → ℕ → Stood
-stood found orientation live = record { found = found; orientation = orientation; live = live }
-
-same_stood : (r s : Stood) → r.found ≡ s.found → r.orientation ≡ s.orientation → r.live ≡ s.live → r ≡ s
-same_stood r s p q l =
-    ap (λ (f : Bool). stood f r.orientation r.live) p
-    ∙ (ap (λ (o : ℕ). stood s.found o r.live) q ∙ ap (λ (n : ℕ). stood s.found s.orientation n) l)
 
 module _ {M : Type 1} (𝓤 : Ura M) (w : World 𝓤) where
   -- four stores are lent
@@ -32,7 +23,7 @@ module _ {M : Type 1} (𝓤 : Ura M) (w : World 𝓤) where
       let kind = args.1.1.1.1.1.1.1.1.0 in
       told 𝓤 _ _ (λ r x. StepIs c live held mass kind s r (stores x.0.0 x.0.1 x.1.0 x.1.1)) (λ _. refl) (λ _ _ _. refl)
       (λ r t x y p q. (
-        same_stood r t (p.found_is ∙ sym q.found_is) (p.orientation_is ∙ sym q.orientation_is) (p.live_is ∙ sym q.live_is),
+        p.taken_is ∙ sym q.taken_is,
         both (both (p.points_are ∙ sym q.points_are) (p.boxes_are ∙ sym q.boxes_are))
             (both (p.walls_are ∙ sym q.walls_are) (p.hints_are ∙ sym q.hints_are)),
       ))

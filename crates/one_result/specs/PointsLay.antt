@@ -2,7 +2,6 @@
 use Rattle.std.specs.Prelude.{refl}
 use Rattle.std.proofs.Common.{sym, ◌∙◌}
 use seplogic.Ra.Ura.{Ura}
-use Rattle.sheet.specs.Columns.{columns}
 use Rattle.plan_sheet.specs.Laid.{Lays}
 use Rattle.one_result.specs.Law.{World, Settles, told}
 use Rattle.point_run.specs.contracts.lay_points as lay-points
@@ -10,8 +9,7 @@ use Rattle.point_run.specs.contracts.lay_points as lay-points
 module _ {M : Type 1} (𝓤 : Ura M) (w : World 𝓤) where
   pub lay_points_one : (κs : _) (args : _)
       → Settles 𝓤 (lay-points.clauses w.𝓛 w.mem w.run κs args)
-      (λ e.
-      columns e.1.1.0.now e.1.1.1.0.now e.1.1.1.1.0.now e.1.1.1.1.1.0.now)
+      (λ e. e.1.1.0.now)
   lay_points_one κs args =
       told 𝓤 _ _ (λ r x. Lays _ r _ x) (λ _. refl) (λ _ _ _. refl)
-      (λ r s x y p q. (p.told_is ∙ sym q.told_is, p.columns_are ∙ sym q.columns_are))
+      (λ r s x y p q. (p.told_is ∙ sym q.told_is, p.lines_are ∙ sym q.lines_are))

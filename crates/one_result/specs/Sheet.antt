@@ -8,7 +8,6 @@ use Rattle.sheet.specs.contracts.is_among as is_among
 use Rattle.sheet.specs.contracts.sheet_refusal as sheet-refusal
 use Rattle.sheet.specs.contracts.blank_kind as blank-kind
 use Rattle.sheet.specs.contracts.blank_line as blank-line
-use Rattle.sheet.specs.contracts.has_room as has-room
 
 module _ {M : Type 1} (𝓤 : Ura M) (w : World 𝓤) where
   pub empty_sheet_one : (κs : _) (args : _) → Settles 𝓤 (empty-sheet.clauses w.𝓛 w.mem w.run κs args) nothing
@@ -28,6 +27,3 @@ module _ {M : Type 1} (𝓤 : Ura M) (w : World 𝓤) where
 
   pub blank_line_one : (κs : _) (args : _) → Settles 𝓤 (blank-line.clauses w.𝓛 w.mem w.run κs args) nothing
   blank_line_one κs args = plain 𝓤 _ _ (λ _. refl) (λ _ _ _. refl)
-
-  pub has_room_one : (κs : _) (args : _) → Settles 𝓤 (has-room.clauses w.𝓛 w.mem w.run κs args) nothing
-  has_room_one κs args = plain 𝓤 _ _ (λ _. refl) (λ _ _ _. refl)

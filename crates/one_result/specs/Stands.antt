@@ -3,7 +3,6 @@ use Rattle.std.specs.Prelude.{refl}
 use seplogic.Ra.Ura.{Ura}
 use Rattle.one_result.specs.Law.{World, Settles, nothing, plain}
 use Rattle.layer_state.specs.contracts.stand.Stand.place_best as stand-place-best
-use Rattle.layer_state.specs.contracts.no_step as no_step
 use Rattle.layer_state.specs.contracts.stand.Stand.new as stand-new
 use Rattle.layer_state.specs.contracts.stand.Stand.place as stand-place
 use Rattle.layer_state.specs.contracts.stand.Stand.utilization as stand-utilization
@@ -11,9 +10,6 @@ use Rattle.layer_state.specs.contracts.stand.Stand.utilization as stand-utilizat
 module _ {M : Type 1} (𝓤 : Ura M) (w : World 𝓤) where
   pub stand_place_best_one : (κs : _) (args : _) → Settles 𝓤 (stand-place-best.clauses w.𝓛 w.mem w.run κs args) nothing
   stand_place_best_one κs args = plain 𝓤 _ _ (λ _. refl) (λ _ _ _. refl)
-
-  pub no_step_one : (κs : _) (args : _) → Settles 𝓤 (no_step.clauses w.𝓛 w.mem w.run κs args) nothing
-  no_step_one κs args = plain 𝓤 _ _ (λ _. refl) (λ _ _ _. refl)
 
   pub stand_new_one : (κs : _) (args : _) → Settles 𝓤 (stand-new.clauses w.𝓛 w.mem w.run κs args) nothing
   stand_new_one κs args = plain 𝓤 _ _ (λ _. refl) (λ _ _ _. refl)

@@ -2,125 +2,73 @@
 
 #![tactic(auto)]
 
-ghost use Rattle.io.specs.Counts.{IsPrefixLen};
-
 mod list; // list.rt: a plan as text
 mod words; // words.rt: the words that the planner is started with
 
-use program_io::{BYTES, STDERR_FILENO, STDIN_FILENO, STDOUT_FILENO};
+use program_io::{BYTES, Failure};
 use std::env::{Env, FillError};
+use std::io;
+use words::{Asked, Engine};
 
 // Longer than any word that is understood.
 const LETTERS: usize = 64;
 
-// The most words that the planner understands: its own name, an engine, a number and `list`.
-const MOST_WORDS: usize = 4;
-
-fn refuse(refused: u64) {
-    io::write_all(STDERR_FILENO, b"refused ");
-    io::print_decimal(STDERR_FILENO, refused);
-    io::write_all(STDERR_FILENO, b"\n");
-}
-
-// The first n bytes.
-fn put_first(bytes: &[u8], n: usize) -> bool {
-    if n <= bytes.len() {
-        return io::write_all(STDOUT_FILENO, &bytes[..n]);
-    }
-    true
-}
-
-// The plan as text of a sheet in the first n bytes.
-fn list_first(bytes: &[u8], n: usize, considered: u64, utilization: u64) -> bool {
-    if n <= bytes.len() {
-        return list::put_plan(&bytes[..n], considered, utilization);
-    }
-    true
-}
-
-fn planned(
-    order: &[u8],
-    layers: bool,
-    consider: u64,
-    sheet: &mut [u8],
-    figures: &mut [u64; 2],
-) -> u64 {
-    if layers {
-        return waikurpeho::wk_plan_layers(order, consider, sheet, figures);
-    }
-    waikurpeho::wk_plan_points(order, consider, sheet, figures)
-}
-
-// Plans the order, writes the sheet or lists it, and answers whether it could; a refusal is told on the error stream.
-fn write_plan(order: &[u8], layers: bool, consider: u64, listed: bool) -> bool {
-    let mut sheet = [0u8; BYTES];
-    let mut figures = [0u64; 2];
-    let answer = planned(order, layers, consider, &mut sheet, &mut figures);
-    let refused = program_io::refusal_of(answer);
-    let length = program_io::count_of(answer);
-    if refused != 0 {
-        refuse(refused);
-        return true;
-    }
-    if listed {
-        return list_first(&sheet, length, figures[0], figures[1]);
-    }
-    put_first(&sheet, length)
-}
-
-fn run(rt: &HostRuntime, layers: bool, consider: u64, listed: bool) {
-    let mut bytes = [0u8; BYTES];
-    let n = io::read_full(STDIN_FILENO, &mut bytes);
-    if program_io::broken_off(rt.stdin(), n) {
-        program_io::tell_unread();
-        return;
-    }
-    program_io::tell_unwritten(write_plan(&bytes[..n], layers, consider, listed));
-}
-
-// Puts word i at the start of `word` and answers its length: 0 where there is none, or where it is longer.
-fn word_at(rt: &HostRuntime, i: usize, word: &mut [u8; LETTERS]) -> usize
-    ensures { IsPrefixLen result word.new }
-{
-    match rt.arg(i, word) {
-        Ok(n) => n,
-        Err(_) => 0,
+// Word i, without letters where it is longer than any that is understood.
+fn word<'a>(rt: &HostRuntime, i: usize, letters: &'a mut [u8; LETTERS]) -> Option<&'a [u8]> {
+    match rt.arg(i, letters) {
+        Ok(n) => Some(&letters[..n]),
+        Err(FillError::TooLong) => Some(&letters[..0]),
+        Err(FillError::NotPresent) => None,
     }
 }
 
-// Whether there is a word i, of any length.
-fn is_given(rt: &HostRuntime, i: usize) -> bool {
-    let mut word = [0u8; LETTERS];
-    match rt.arg(i, &mut word) {
-        Err(FillError::NotPresent) => false,
-        _ => true,
-    }
+// What the words ask, of which one more than three is one too many.
+fn asked(rt: &HostRuntime) -> Option<Asked> {
+    let [mut first, mut second, mut third, mut fourth] = [[0; LETTERS]; 4];
+    words::asked_by([
+        word(rt, 1, &mut first),
+        word(rt, 2, &mut second),
+        word(rt, 3, &mut third),
+        word(rt, 4, &mut fourth),
+    ])
 }
 
-// How many words there are, with the program's own name. Past one word too many none is counted.
-fn count_given(rt: &HostRuntime) -> usize {
-    for n in 0..MOST_WORDS + 1 {
-        if !is_given(rt, n) {
-            return n;
-        }
+// Plans the order, and writes the sheet or lists it; a refusal is told on the error stream.
+fn write_plan(rt: &(impl Print + Eprint), order: &[u8], asked: Asked) -> io::Result<()> {
+    let mut sheet = [0; BYTES];
+    let mut figures = [0; 2];
+    let consider = asked.consider;
+    let answer = match asked.engine {
+        Engine::Points => waikurpeho::wk_plan_points(order, consider, &mut sheet, &mut figures),
+        Engine::Layers => waikurpeho::wk_plan_layers(order, consider, &mut sheet, &mut figures),
+    };
+    let refusal = program_io::refusal_of(answer);
+    if refusal != 0 {
+        let _ = eprintln!(rt; "refused {refusal}");
+        return Ok(());
     }
-    MOST_WORDS + 1
+    let Some(planned) = sheet.get(..program_io::count_of(answer)) else {
+        return Ok(());
+    };
+    if asked.list {
+        let [considered, utilization] = figures;
+        return list::write_plan(rt, planned, considered, utilization);
+    }
+    rt.write_all(planned)
+}
+
+fn run(rt: &HostRuntime, asked: Asked) -> Result<(), Failure> {
+    let mut bytes = [0; BYTES];
+    let order = program_io::read_input(&mut rt.stdin(), &mut bytes)?;
+    write_plan(rt, order, asked).map_err(|_| Failure::Unwritten)
 }
 
 fn main(rt: HostRuntime) {
-    let mut first = [0u8; LETTERS];
-    let mut second = [0u8; LETTERS];
-    let mut third = [0u8; LETTERS];
-    let i = word_at(&rt, 1, &mut first);
-    let j = word_at(&rt, 2, &mut second);
-    let k = word_at(&rt, 3, &mut third);
-    let asked = words::asked_by(&first[..i], &second[..j], &third[..k], count_given(&rt));
-    if !asked.right {
-        io::write_all(
-            STDERR_FILENO,
-            b"usage: plan points|layers [NUMBER] [list]\n",
-        );
+    let Some(asked) = asked(&rt) else {
+        let _ = rt.eprintln("usage: plan points|layers [NUMBER] [list]");
         return;
+    };
+    if let Err(failure) = run(&rt, asked) {
+        let _ = rt.eprintln(failure);
     }
-    run(&rt, asked.layers, asked.consider, asked.list);
 }

@@ -1,48 +1,53 @@
 // The words that the planner is started with: an engine, then perhaps a number to consider, then perhaps `list`.
 
-// What is asked. Where the words are wrong, nothing is.
-#[derive(Clone, Copy)]
-pub(crate) struct Asked {
-    pub(crate) right: bool,
-    pub(crate) layers: bool,
-    pub(crate) list: bool,
-    pub(crate) consider: u64,
+// The two placers.
+#[derive(Clone, Copy, Debug, PartialEq, Eq, Hash)]
+pub(crate) enum Engine {
+    Points,
+    Layers,
 }
 
-fn same(a: &[u8], b: &[u8]) -> bool {
-    if a.len() != b.len() {
-        return false;
-    }
-    let mut i = 0;
-    while i < a.len() {
-        if a[i] != b[i] {
-            return false;
+impl Engine {
+    fn named(word: &[u8]) -> Option<Engine> {
+        if word == b"points".as_slice() {
+            return Some(Engine::Points);
         }
-        i += 1;
+        if word == b"layers".as_slice() {
+            return Some(Engine::Layers);
+        }
+        None
     }
-    true
 }
 
-// Without a number, all boxes are considered.
-fn considered(told: bool, n: u64) -> u64 {
-    if told {
-        return n;
-    }
-    domain::MOST_BOXES as u64
+// What is asked.
+#[derive(Clone, Copy, Debug, PartialEq, Eq, Hash)]
+pub(crate) struct Asked {
+    pub(crate) engine: Engine,
+    pub(crate) consider: u64,
+    pub(crate) list: bool,
 }
 
-// What three words ask, of which `count` less one were given.
-pub(crate) fn asked_by(first: &[u8], second: &[u8], third: &[u8], count: usize) -> Asked {
-    let layers = same(first, b"layers");
-    let engine = layers | same(first, b"points");
-    let n = show_number::number_of(second);
-    let told = (count > 2) & n.ok;
-    let short = (count == 3) & same(second, b"list");
-    let long = (count == 4) & same(third, b"list");
-    Asked {
-        right: engine & ((count == 2) | short | ((count == 3) & told) | (long & told)),
-        layers,
-        list: short | long,
-        consider: considered(told, n.value),
-    }
+fn is_list(word: &[u8]) -> bool {
+    word == b"list".as_slice()
+}
+
+// What the words ask, and none where they are not understood. Without a number, all boxes are considered.
+pub(crate) fn asked_by(words: [Option<&[u8]>; 4]) -> Option<Asked> {
+    let [Some(engine), second, third, None] = words else {
+        return None;
+    };
+    let engine = Engine::named(engine)?;
+    let all = domain::MOST_BOXES as u64;
+    let (consider, list) = match (second, third) {
+        (None, None) => (all, false),
+        (Some(word), None) if is_list(word) => (all, true),
+        (Some(word), None) => (show_number::number_of(word)?, false),
+        (Some(word), Some(last)) if is_list(last) => (show_number::number_of(word)?, true),
+        _ => return None,
+    };
+    Some(Asked {
+        engine,
+        consider,
+        list,
+    })
 }

@@ -22,7 +22,7 @@ pub fn next_box(u: Instance, quantity: u32) -> Instance
     if u.kind >= domain::MOST_KINDS {
         return u;
     }
-    if (u.instance as u64) + 1 < quantity as u64 {
+    if u64::from(u.instance) + 1 < u64::from(quantity) {
         return Instance {
             kind: u.kind,
             instance: u.instance + 1,
@@ -34,12 +34,6 @@ pub fn next_box(u: Instance, quantity: u32) -> Instance
     }
 }
 
-fn wide(x: u32) -> u64
-    ensures { (result ≡ x) × (result < 4294967296) }
-{
-    x as u64
-}
-
 // The boxes of the first m kinds of a file, and 0 for more kinds than there can be. It cannot wrap: at most 64 numbers of 32 bits.
 pub fn boxes_of(f: &[u8], m: usize) -> u64
     ensures { result ≡ boxes_from f.now m }
@@ -47,12 +41,10 @@ pub fn boxes_of(f: &[u8], m: usize) -> u64
     if m > domain::MOST_KINDS {
         return 0;
     }
-    let mut t: u64 = 0;
-    let mut k = 0;
-    while k < m {
+    let mut t = 0;
+    for k in 0..m {
         let kind = records::kind_in(f, k);
-        t += wide(kind.quantity);
-        k += 1;
+        t += u64::from(kind.quantity);
     }
     t
 }

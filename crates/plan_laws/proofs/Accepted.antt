@@ -1,12 +1,13 @@
 -- The planned sheet of an accepted order is accepted, by either placer and for every number of boxes to consider.
 use Rattle.std.specs.Prelude.{◌≡◌, refl, ℕ, ◌≤◌, get_or}
 use Rattle.std.proofs.Common.{arith}
+use Rattle.std.proofs.Math.Nat.{min-le_right}
 use Rattle.domain.specs.Bounds.{most_lines}
 use Rattle.sheet.specs.declared.Sheet.{Sheet}
 use Rattle.sheet.specs.Sheets.{no_line, boxes_in, sheet_refusal}
 use Rattle.sheet.specs.Accepted.{accepted}
 use Rattle.plan_sheet.specs.Plans.{blank_line}
-use Rattle.point_state.specs.Fresh.{fresh_of}
+use Rattle.point_state.specs.Fresh.{fresh_state, fair_fresh}
 use Rattle.point_laws.specs.Reach.{start}
 use Rattle.lists.specs.Table.{table}
 use Rattle.point_run.specs.Order.{falling_boxes}
@@ -15,7 +16,7 @@ use Rattle.point_laws.specs.Reached.{stow_reached}
 use Rattle.point_laws.specs.Told.{considers, run_by}
 use Rattle.layer_fill.specs.declared.LayerFill.{LayerFill}
 use Rattle.layer_plan.specs.Fills as Fills
-use Rattle.layer_plan.specs.Fills.{layer_fill_of, smaller_le, turns_few}
+use Rattle.layer_plan.specs.Fills.{layer_fill_of, turns_few}
 use Rattle.plan_laws.specs.Spots.{sized, no_fault}
 use Rattle.plan_laws.specs.Points.{Housed}
 use Rattle.plan_laws.specs.Layers.{InOrder}
@@ -27,9 +28,9 @@ use Rattle.plan_laws.proofs.Layers.{fill_right}
 run_housed : (order : Sheet) (consider : ℕ) → sheet_refusal order ≡ 0 → Housed (run_by order consider).next
 unfolding run_of
 run_housed order consider z =
-    let fair : (fresh_of order.container).refused ≡ 0 = rw (accepted order z).container_right in
+    let fair = fair_fresh order.container (accepted order z).container_right in
     reached_housed
-    (stow_reached (fresh_of order.container).set order.kinds (falling_boxes order.kinds (boxes_in order.kinds order.many.kinds))
+    (stow_reached (fresh_state order.container) order.kinds (falling_boxes order.kinds (boxes_in order.kinds order.many.kinds))
     (considers order consider)
     (start order.container fair))
 
@@ -57,7 +58,7 @@ pub layers_accepted : (order : Sheet) (consider : ℕ) → sheet_refusal order �
 unfolding layer_fill_of
 layers_accepted order consider z =
     let a = accepted order z in
-    let l = smaller_le consider (boxes_in order.kinds order.many.kinds) in
+    let l = min-le_right consider (boxes_in order.kinds order.many.kinds) in
     rw z
     (stow_accepted order (fill_to order consider) (number order consider) z
     (fill_right order.container order.kinds (number order consider) (sized order.container a.container_right) (turns_few order a consider)

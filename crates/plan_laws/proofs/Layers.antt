@@ -1,10 +1,9 @@
 -- The lines of a fill by layers are in range: a box is placed only where it ends within the far limits.
-use Rattle.std.specs.Prelude.{◌≡◌, false, List, [], ◌∷◌, ℕ, zero, suc, ◌<◌, ◌≤◌, get_or, Float}
-use Rattle.std.proofs.Common.{sym, arith}
+use Rattle.std.specs.Prelude.{◌≡◌, false, List, [], ◌∷◌, ℕ, zero, suc, ◌<◌, ◌≤◌, get_or, Option, Some, None, IfSome, option_and_then, Float}
+use Rattle.std.proofs.Common.{arith}
 use Rattle.std.specs.Float.Ieee.{lt}
 use Rattle.floats.specs.Ops as Ops
 use Rattle.floats.specs.Ops.{◌⊕◌}
-use Rattle.floats.specs.Weak.{true_false}
 use Rattle.domain.specs.Bounds.{most_boxes}
 use Rattle.lists.specs.Bools.{or_left, or_right}
 use Rattle.measures.specs.declared.Container.{Container}
@@ -14,7 +13,10 @@ use Rattle.measures.specs.Faults.{measure_fault}
 use Rattle.sheet.specs.Sheets.{no_kind}
 use Rattle.plan_boxes.specs.Turns.{turn_of}
 use Rattle.layer_cursor.specs.declared.LayerCursor.{LayerCursor}
+use Rattle.layer_cursor.specs.declared.LayerSpot.{LayerSpot}
 use Rattle.layer_state.specs.declared.stand.Stand.{Stand}
+use Rattle.layer_state.specs.declared.stand.Step.{Step}
+use Rattle.layer_state.specs.declared.best.Best.{Best}
 use Rattle.layer_fill.specs.declared.LayerFill.{LayerFill}
 use Rattle.layer_cursor.specs.Spot.{over, turn_to, spot_of}
 use Rattle.layer_state.specs.Stand.{new_of, mass_allows, spot_in, settled, turned_of}
@@ -24,7 +26,7 @@ use Rattle.lists.specs.Bools.{cond_cases}
 use Rattle.layer_plan.specs.Run.{offered, run_from, run_few}
 use Rattle.layer_plan.specs.Offers.{best_offer}
 use Rattle.plan_laws.specs.Spots.{Lengths, lengths_in_lem, Sized, InRange}
-use Rattle.plan_laws.specs.Layers.{Ahead, turn_ahead, past_ahead, Right, Kept, Spot, none_kept, InOrder, empty_right, took_right}
+use Rattle.plan_laws.specs.Layers.{Ahead, turn_ahead, past_ahead, Right, Kept, Spot, InOrder, empty_right, took_right}
 use Rattle.plan_laws.proofs.Spots.{layer_axis}
 
 module _ (b : Container) (sz : Sized b) where
@@ -45,33 +47,31 @@ module _ (b : Container) (sz : Sized b) where
             (or_right (lt (Ops.y m) (c.y ⊕ Ops.y size)) _ f);
       }
 
-  spot_right : (c : LayerCursor) (size : List Float) → Lengths size → Ahead c → Spot b sz (spot_of b (new_of b).max c size)
+  spot_right : (c : LayerCursor) (size : List Float) → Lengths size → Ahead c → IfSome (spot_of b (new_of b).max c size) (Spot b sz)
   unfolding spot_of
   spot_right c size l h =
       let m = (new_of b).max in
       let t = turn_ahead b m sz c size h in
-      cond_cases (Spot b sz) (over m (turn_to b m c size) size)
-      (λ _. record { range = λ e. true_false (sym e); next_ahead = h })
-      (λ e. record { range = λ _. spot_range (turn_to b m c size) size l t e; next_ahead = past_ahead b m sz (turn_to b m c size) size l t })
+      cond_cases (λ (p : Option LayerSpot). IfSome p (Spot b sz)) (over m (turn_to b m c size) size) (λ _. tt)
+      (λ e. record { range = spot_range (turn_to b m c size) size l t e; next_ahead = past_ahead b m sz (turn_to b m c size) size l t })
 
-  pub turned_kept : (s : Stand) (k : Kind) (o : ℕ) → measure_fault k ≡ false → Right b s → Kept b (turned_of s k o)
+  settled_kept : (s : Stand) (k : Kind) (o : ℕ) (p : Option LayerSpot) → Right b s → IfSome p (Spot b sz) → IfSome (settled s k o p) (Kept b)
   unfolding settled
-  turned_kept s k o e r =
-      let p : Spot b sz (spot_in s k o) = rw (r.container_is, r.max_is) (spot_right s.cursor (lengths_in k o) (lengths_in_lem k o e) r.ahead) in
-      cond_cases (Kept b) (spot_in s k o).fits
-      (λ f.
-      record {
-        spot = λ _. p.range f;
-        stand = record { container_is = r.container_is; max_is = r.max_is; ahead = p.next_ahead };
-      })
-      (λ _. none_kept b sz s r)
+  settled_kept s k o None r q = tt
+  settled_kept s k o (Some p) r q =
+      record { spot = q.range; stand = record { container_is = r.container_is; max_is = r.max_is; ahead = q.next_ahead } }
 
-  pub best_kept : (s : Stand) (k : Kind) → measure_fault k ≡ false → Right b s → Kept b (place_best_of s k)
+  pub turned_kept : (s : Stand) (k : Kind) (o : ℕ) → measure_fault k ≡ false → Right b s → IfSome (turned_of s k o) (Kept b)
+  turned_kept s k o e r =
+      settled_kept s k o (spot_in s k o) r (rw (r.container_is, r.max_is) (spot_right s.cursor (lengths_in k o) (lengths_in_lem k o e) r.ahead))
+
+  pub best_kept : (s : Stand) (k : Kind) → measure_fault k ≡ false → Right b s → IfSome (place_best_of s k) (Kept b)
   unfolding place_best_of
-  best_kept s k e r =
-      cond_cases (Kept b) (mass_allows s k)
-      (λ _. cond_cases (Kept b) (best_for s k).found (λ _. turned_kept s k (best_for s k).orientation e r) (λ _. none_kept b sz s r))
-      (λ _. none_kept b sz s r)
+  best_kept s k e r = cond_cases (λ (t : Option Step). IfSome t (Kept b)) (mass_allows s k) (λ _. go (best_for s k)) (λ _. tt)
+    where
+      go : (d : Option Best) → IfSome (option_and_then (λ (d : Best). turned_of s k d.orientation) d) (Kept b)
+      go None = tt
+      go (Some d) = turned_kept s k d.orientation e r
 
 offered_right : (b : Container) (f : LayerFill) (kinds : List Kind) (n : ℕ) → Sized b → f.count < most_boxes
     → measure_fault (get_or kinds (turn_of kinds n).kind no_kind) ≡ false → InOrder b f → InOrder b (offered f kinds (best_offer kinds n))

@@ -4,20 +4,18 @@ use Rattle.std.proofs.Common.{eqb-true}
 use Rattle.std.specs.Float.Ieee.{lt}
 use Rattle.floats.specs.Ops.{x, y, z, ◌⊕◌, ◌⊖◌}
 use Rattle.lists.specs.Bools.{or_left, or_right, and_left, and_right, cond_cases}
-use Rattle.domain.specs.Laws.{when_none}
 use Rattle.measures.specs.declared.Container.{Container}
 use Rattle.measures.specs.declared.Kind.{Kind}
 use Rattle.measures.specs.Orders.{lengths_in}
-use Rattle.measures.specs.Faults.{container_fault}
+use Rattle.point_state.specs.Fresh.{fresh_fair}
 use Rattle.point_state.specs.declared.ExtremePointSet.{ExtremePointSet}
-use Rattle.point_state.specs.Triples.{sum3}
 use Rattle.domain.specs.Ranges.{slack}
-use Rattle.point_state.specs.Stores.{point_at}
+use Rattle.point_state.specs.Stores.{point_at, sum3}
 use Rattle.point_place.specs.declared.Tried.{Tried}
 use Rattle.point_fit.specs.Fit.{room_of, in_room}
 use Rattle.point_scan.specs.Passes.{fits_at}
 use Rattle.point_scan.specs.Choose.{best_of, scan_found}
-use Rattle.point_place.specs.Place.{refusal_of, label_of, placed_by, tried_of, ready}
+use Rattle.point_place.specs.Place.{refusal_of, label_of, placed_cases, tried_of, ready}
 use Rattle.point_laws.specs.Least.{Sound, scan_right}
 use Rattle.point_laws.specs.Clean.{Clean}
 use Rattle.point_laws.specs.Reach.{Reached, start, next, reached_clean}
@@ -50,20 +48,18 @@ module _ (c : Container) (s : Sized c) (at size : List Float) (p : Sound at) (l 
       }
 
 tried_housed : (s : ExtremePointSet) (kind : Kind) (instance orientation : ℕ) → Clean s → Housed s → Housed (tried_of s kind instance orientation).next
-unfolding tried_of placed_by best_of
+unfolding tried_of best_of
 tried_housed s kind instance orientation c h =
     let size = lengths_in kind orientation in
-    let choice = best_of s size in
     cond_cases (λ (t : Tried). Housed t.next) (eqb (refusal_of s.live s.held kind) 0)
     (λ e.
-    cond_cases (λ (t : Tried). Housed t.next) choice.found
-    (λ f.
+    placed_cases (λ (t : Tried). Housed t.next) s (label_of kind instance) size (best_of s size)
+    (λ k f.
     let r = ready _ _ kind (eqb-true _ 0 e) in
-    let k = choice.index in
-    let passes : fits_at s (point_at s k) size ≡ true = (scan_right (λ i. fits_at s (point_at s i) size) s.points s.live c.sound).passing f in
+    let passes : fits_at s (point_at s k) size ≡ true = (scan_right (λ i. fits_at s (point_at s i) size) s.points s.live c.sound).passing k f in
     settled_housed s k (label_of kind instance) size c r.room
     (inside_range s.container (sized s.container h.container_right) (point_at s k) size
-    (c.sound k (scan_found _ s.points s.live f))
+    (c.sound k (scan_found _ s.points s.live k f))
     (lengths_in_lem kind orientation (kind_measures kind false r.kind_right))
     (fits_inside s (point_at s k) size passes))
     h)
@@ -72,5 +68,5 @@ tried_housed s kind instance orientation c h =
 
 -- every state that the calls make from a fresh one
 pub reached_housed : {s : ExtremePointSet} → Reached s → Housed s
-reached_housed (start c e) = fresh_housed c (when_none (container_fault c) 2 e)
+reached_housed (start {s} c e) = let f = fresh_fair c s e in rw f.state_is (fresh_housed c f.in_range)
 reached_housed (next {s} kind instance orientation r) = tried_housed s kind instance orientation (reached_clean r) (reached_housed r)

@@ -1,6 +1,7 @@
 -- What the plan of an accepted order holds, and when its sheet is accepted. That it is, by either placer, stands in proofs/Accepted.antt.
-use Rattle.std.specs.Prelude.{◌≡◌, refl, false, List, ℕ, zero, suc, ◌<◌, ◌≤◌, get_or, Float}
+use Rattle.std.specs.Prelude.{◌≡◌, refl, false, List, ℕ, zero, suc, ◌<◌, ◌≤◌, get_or, Float, min}
 use Rattle.std.proofs.Common.{◌∙◌, arith, le-ltb}
+use Rattle.std.proofs.Math.Nat.{min-le_right}
 use Rattle.domain.specs.Bounds.{most_kinds, most_boxes, most_lines, most_unplaced}
 use Rattle.domain.specs.Refusals.{or_else, first_below}
 use Rattle.measures.specs.declared.Kind.{Kind}
@@ -11,8 +12,7 @@ use Rattle.sheet.specs.Sheets.{no_kind, no_line, boxes_in, line_fault, line_faul
 use Rattle.sheet.specs.Accepted.{Accepted, accepted}
 use Rattle.plan_boxes.specs.Turns.{turn_of, turn_right}
 use Rattle.plan_unplaced.specs.declared.Left.{Left}
-use Rattle.plan_unplaced.specs.Left.{left_after, flags_of, left_few, left_fair, by_made}
-use Rattle.plan_unplaced.specs.Short.{names_of}
+use Rattle.plan_unplaced.specs.Left.{left_after, left_by, flags_of, left_few, none_over}
 use Rattle.plan_unplaced.specs.Anew.{anew_refusal}
 use Rattle.plan_sheet.specs.Plans.{Plan, blank_line, planned_of, plan_refusal}
 use Rattle.plan_sheet.specs.Planned.{widened, planned_sheet, sheet_from}
@@ -21,13 +21,12 @@ use Rattle.lists.specs.Table.{table, table_at}
 use Rattle.point_run.specs.Runs.{line_by, line_of, plan_from, ep_packing_of}
 use Rattle.point_run.specs.Kinds.{boxes_few}
 use Rattle.point_laws.specs.Told.{considers, run_by, placed_few}
-use Rattle.plan_sheet.specs.Boxes.{smaller}
 use Rattle.layer_fill.specs.declared.LayerFill.{LayerFill}
 use Rattle.layer_fill.specs.Fill.{empty}
 use Rattle.layer_plan.specs.Run.{run_from, run_few}
 use Rattle.layer_plan.specs.Offers.{best_offer, item_offer, item_count}
 use Rattle.layer_plan.specs.Fills as Fills
-use Rattle.layer_plan.specs.Fills.{layer_fill_of, items_refusal, place_items_of, smaller_le, turns_few, items_right}
+use Rattle.layer_plan.specs.Fills.{layer_fill_of, items_refusal, place_items_of, turns_few, items_right}
 use Rattle.plan_boxes.specs.Orders.{some_boxes, boxes_are}
 use Rattle.plan_laws.specs.Spots.{no_fault}
 use Rattle.plan_laws.specs.Points.{Housed}
@@ -41,16 +40,14 @@ pub record Holds (p : Plan) (lines : List Line) (n : ℕ) : Type 0 where
 
 pub planned_holds : (kinds : List Kind) (m : ℕ) (lines : List Line) (n considered : ℕ) (u : Float) → m ≤ most_kinds → n ≤ most_lines
     → Holds (planned_of kinds m lines n considered u) lines n
-unfolding planned_of
+unfolding planned_of left_by
 planned_holds kinds m lines n considered u h k =
-    let flags = flags_of kinds (names_of lines most_lines).ids (names_of lines most_lines).instances n m in
-    let e = by_made kinds m lines n h k in
-    let f = left_few kinds flags m in
-    rw (e, left_fair kinds flags m) (record { not_refused = refl; placed_are = refl; lines_are = refl; ids_few = omega arith })
+    let f = left_few kinds (flags_of kinds lines n m) m in
+    rw (none_over m n h k) (record { not_refused = refl; placed_are = refl; lines_are = refl; ids_few = omega arith })
 
 -- the unplaced list of a plan of m kinds is what its own lines leave, which are no more than there may be
 abbrev pub left_in : List Kind → ℕ → List Line → ℕ → Left
-left_in kinds m lines n = left_after kinds (flags_of kinds (names_of lines most_lines).ids (names_of lines most_lines).instances n m) m
+left_in kinds m lines n = left_after kinds (flags_of kinds lines n m) m
 
 pub record Lists (kinds : List Kind) (m : ℕ) (p : Plan) : Type 0 where
   pub lines_few : p.placed ≤ most_lines
@@ -59,10 +56,8 @@ pub record Lists (kinds : List Kind) (m : ℕ) (p : Plan) : Type 0 where
 
 planned_lists : (kinds : List Kind) (m : ℕ) (lines : List Line) (n considered : ℕ) (u : Float) → m ≤ most_kinds → n ≤ most_lines
     → Lists kinds m (planned_of kinds m lines n considered u)
-unfolding planned_of
-planned_lists kinds m lines n considered u h k =
-    rw (by_made kinds m lines n h k, left_fair kinds (flags_of kinds (names_of lines most_lines).ids (names_of lines most_lines).instances n m) m)
-    (record { lines_few = k; count_is = refl; ids_are = refl })
+unfolding planned_of left_by
+planned_lists kinds m lines n considered u h k = rw (none_over m n h k) (record { lines_few = k; count_is = refl; ids_are = refl })
 
 -- ---- the sheet of such a plan
 
@@ -112,7 +107,7 @@ line_right f n i few l h e =
 pub held_few : (order : Sheet) (consider : ℕ) → sheet_refusal order ≡ 0 → (run_by order consider).next.held ≤ most_boxes
 held_few order consider z =
     let h = placed_few order consider z in
-    let l = smaller_le consider (boxes_in order.kinds order.many.kinds) in
+    let l = min-le_right consider (boxes_in order.kinds order.many.kinds) in
     let b = boxes_few order (accepted order z) in
     omega arith
 
@@ -136,7 +131,7 @@ turn_measures order a t l =
 
 -- the fill over as many boxes as are considered, and its lines
 abbrev pub number : Sheet → ℕ → ℕ
-number order consider = smaller consider (boxes_in order.kinds order.many.kinds)
+number order consider = min consider (boxes_in order.kinds order.many.kinds)
 
 abbrev pub fill_to : Sheet → ℕ → LayerFill
 fill_to order consider = run_from (empty order.container) order.kinds (best_offer order.kinds) (number order consider)
@@ -162,8 +157,8 @@ pub items_lists : (order : Sheet) (records items : List ℕ) (consider : ℕ) �
 unfolding place_items_of Fills.plan_from
 items_lists order records items consider z =
     let r = items_right order records items z in
-    let n = smaller consider (item_count items) in
-    let l = smaller_le consider (item_count items) in
+    let n = min consider (item_count items) in
+    let l = min-le_right consider (item_count items) in
     let m = r.few in
     let c = run_few (empty order.container) order.kinds (item_offer records items) n in
     let f = run_from (empty order.container) order.kinds (item_offer records items) n in

@@ -1,13 +1,13 @@
 -- Every line of a plan stands in case 0, as there is one case. RULES: Plans
-use Rattle.std.specs.Prelude.{◌≡◌, refl, List, [], ◌∷◌, ℕ, zero, suc, ◌<◌, get_or, set, replicate}
+use Rattle.std.specs.Prelude.{◌≡◌, refl, List, [], ◌∷◌, ℕ, zero, suc, ◌<◌, get_or, set, replicate, Option, Some, None}
 use Rattle.domain.specs.Bounds.{most_boxes, most_lines}
-use Rattle.lists.specs.Bools.{cond_keeps}
 use Rattle.lists.specs.Table.{table_at}
 use Rattle.measures.specs.declared.Container.{Container}
 use Rattle.measures.specs.declared.Kind.{Kind}
 use Rattle.sheet.specs.declared.Line.{Line}
 use Rattle.sheet.specs.declared.Sheet.{Sheet}
 use Rattle.sheet.specs.Sheets.{no_kind, no_line, blank_line, sheet_refusal}
+use Rattle.layer_state.specs.declared.stand.Step.{Step}
 use Rattle.layer_fill.specs.declared.LayerFill.{LayerFill}
 use Rattle.layer_fill.specs.Fill.{no_lines, empty, line_of, took}
 use Rattle.layer_plan.specs.Run.{step_by, offered, run_from}
@@ -34,15 +34,18 @@ blank_binless zero i = refl
 blank_binless (suc n) zero = refl
 blank_binless (suc n) (suc i) = blank_binless n i
 
+took_binless : (f : LayerFill) (s : Option Step) (id instance : ℕ) → Binless f.lines → Binless (took f s id instance).lines
+unfolding took
+took_binless f None id instance h = h
+took_binless f (Some s) id instance h = set_binless f.lines f.count (line_of s id instance) h refl
+
 run_binless : (b : Container) (kinds : List Kind) (offer : ℕ → Offer) (n : ℕ) → Binless (run_from (empty b) kinds offer n).lines
-unfolding run_from offered took no_lines
+unfolding run_from offered no_lines
 run_binless b kinds offer zero = blank_binless most_boxes
 run_binless b kinds offer (suc n) =
     let f = run_from (empty b) kinds offer n in
     let k = get_or kinds (offer n).kind no_kind in
-    let s = step_by f.stand k (offer n).way in
-    cond_keeps (λ (g : LayerFill). Binless g.lines) s.fits
-    (set_binless f.lines f.count (line_of s k.id (offer n).instance) (run_binless b kinds offer n) refl) (run_binless b kinds offer n)
+    took_binless f (step_by f.stand k (offer n).way) k.id (offer n).instance (run_binless b kinds offer n)
 
 pub layers_bins : (order : Sheet) (consider : ℕ) → sheet_refusal order ≡ 0 → (i : ℕ) → (get_or (layer_fill_of order consider).lines i no_line).bin ≡ 0
 layers_bins order consider z i =

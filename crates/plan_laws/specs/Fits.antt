@@ -1,26 +1,30 @@
--- What a plan considers and places: no more boxes than there may be lines, and no more placed than considered. So columns with a cell for each line
--- that there may be have room for every plan, and columns with one for each box considered have one for each line.
-use Rattle.std.specs.Prelude.{◌≡◌, refl, Bool, true, false, cond, List, ℕ, ◌≤◌, eqb, Float}
-use Rattle.std.proofs.Common.{arith, eqb-true}
+-- What a plan considers and places: no more boxes than there may be lines, and no more placed than considered. So as many lines as
+-- there may be have room for every plan, and as many as boxes are considered have room for each line placed.
+use Rattle.std.specs.Prelude.{◌≡◌, refl, Bool, true, false, cond, List, ℕ, ◌≤◌, eqb, ltb, length, Float, Ok, Err}
+use Rattle.std.proofs.Common.{arith, eqb-true, ltb-true, ltb-false}
+use Rattle.std.proofs.Math.Nat.{min-le_right}
 use Rattle.domain.specs.Bounds.{most_lines}
+use Rattle.domain.specs.declared.Refusal.{Refusal}
+use Rattle.domain.specs.declared.Refusal.TheVariants.{Room}
+use Rattle.domain.specs.Refusal.{answer_with, no_refusal}
 use Rattle.measures.specs.declared.Kind.{Kind}
 use Rattle.sheet.specs.declared.Line.{Line}
 use Rattle.sheet.specs.declared.Sheet.{Sheet}
 use Rattle.sheet.specs.Sheets.{sheet_refusal}
 use Rattle.sheet.specs.Accepted.{accepted}
-use Rattle.sheet.specs.Columns.{Columns}
 use Rattle.file_read.specs.Form.{right_shape}
 use Rattle.file_read.specs.Reading.{sheet_of, refusal_of}
-use Rattle.plan_sheet.specs.Plans.{Plan, left_by, refused_plan, planned_of}
-use Rattle.plan_sheet.specs.Laid.{plan_in}
-use Rattle.plan_sheet.specs.Room.{has_room, fitting, Roomy, roomy, has_room_lem, roomy_less, fits_in, fits_not}
+use Rattle.plan_sheet.specs.declared.Told.{Told}
+use Rattle.plan_sheet.specs.Plans.{Plan, over_bound, left_by, refused_plan, crowded_plan, planned_of}
+use Rattle.plan_sheet.specs.Laid.{plan_in, told_of, Lays}
+use Rattle.plan_sheet.specs.Room.{fitting, fits_in, fits_not}
 use Rattle.point_run.specs.Runs.{plan_from, ep_packing_of}
 use Rattle.point_laws.specs.Told.{considers, placed_few}
 use Rattle.layer_fill.specs.Fill.{empty}
 use Rattle.layer_plan.specs.Run.{run_few}
 use Rattle.layer_plan.specs.Offers.{Offer, best_offer, item_offer, item_count}
 use Rattle.layer_plan.specs.Fills as Fills
-use Rattle.layer_plan.specs.Fills.{layer_fill_of, items_refusal, place_items_of, smaller_le, turns_few, items_right}
+use Rattle.layer_plan.specs.Fills.{layer_fill_of, items_refusal, place_items_of, turns_few, items_right}
 use Rattle.layer_plan.specs.Items.{items_in}
 
 pub record Modest (p : Plan) : Type 0 where
@@ -36,10 +40,10 @@ refused_modest r = record { few = omega arith; no_more = omega arith }
 planned_modest : (kinds : List Kind) (m : ℕ) (lines : List Line) (n considered : ℕ) (u : Float) → n ≤ considered → considered ≤ most_lines
     → Modest (planned_of kinds m lines n considered u)
 unfolding planned_of
-planned_modest kinds m lines n considered u a b = go (eqb (left_by kinds m lines n).refused 0)
+planned_modest kinds m lines n considered u a b = go (over_bound m n)
   where
     go : (t : Bool)
-        → Modest (cond {A = Plan} t
+        → Modest (cond {A = Plan} t (refused_plan 2)
         (record {
           refused = 0;
           considered = considered;
@@ -48,10 +52,9 @@ planned_modest kinds m lines n considered u a b = go (eqb (left_by kinds m lines
           unplaced = (left_by kinds m lines n).count;
           lines = lines;
           ids = (left_by kinds m lines n).ids;
-        })
-        (refused_plan (left_by kinds m lines n).refused))
-    go true = record { few = b; no_more = a }
-    go false = refused_modest _
+        }))
+    go true = refused_modest 2
+    go false = record { few = b; no_more = a }
 
 -- a plan or a refusal
 either_modest : (r : ℕ) (p : Plan) → (r ≡ 0 → Modest p) → Modest (cond (eqb r 0) p (refused_plan r))
@@ -92,7 +95,7 @@ items_modest f records items consider = go (right_shape f)
         either_modest (items_refusal (sheet_of f) records items) _
         (λ z.
         let r = (items_right (sheet_of f) records items z).few in
-        let l = smaller_le consider (item_count items) in
+        let l = min-le_right consider (item_count items) in
         fill_modest (sheet_of f) (item_offer records items) _ (omega arith))
 
     go : (t : Bool) → Modest (cond t (place_items_of (sheet_of f) records items consider) (refused_plan 1))
@@ -101,22 +104,39 @@ items_modest f records items consider = go (right_shape f)
 
 -- ---- where such a plan is laid
 
--- in columns with a cell for each line that there may be, it fits
-pub fits_long : {p : Plan} (c : Columns) → Modest p → Roomy c most_lines → fitting c p ≡ p
-fits_long {p} c m r = fits_in c p (has_room_lem c p.considered (roomy_less p.considered r m.few))
+-- in as many lines as there may be, it fits
+pub fits_long : {p : Plan} (lines : List Line) → Modest p → most_lines ≤ length lines → fitting lines p ≡ p
+fits_long {p} lines m r = fits_in lines p (let a = m.few in omega arith)
 
--- in others, unless it is refused by 6
-pub record Fits (c : Columns) (p : Plan) : Type 0 where
-  pub is_plan : fitting c p ≡ p
-  pub room : Roomy c p.placed
+-- in others, where it is told of
+pub record Fits (lines : List Line) (p : Plan) : Type 0 where
+  pub is_plan : fitting lines p ≡ p
+  pub room : p.placed ≤ length lines
 
-pub fits_small : (c : Columns) (p : Plan) → Modest p → ((fitting c p).refused ≡ 6 → ⊥) → Fits c p
-unfolding refused_plan
-fits_small c p m n = go (has_room c p.considered) refl
+pub fits_small : (lines old new : List Line) (p : Plan) (t : Told) → Modest p → Lays (fitting lines p) (Ok t) old new → Fits lines p
+unfolding crowded_plan
+fits_small lines old new p t m l = go (ltb (length lines) p.considered) refl
   where
-    go : (t : Bool) → has_room c p.considered ≡ t → Fits c p
-    go true e = record { is_plan = fits_in c p e; room = roomy_less p.placed (roomy c p.considered e) m.no_more }
-    go false e = absurd (n (rw (fits_not c p e)))
+    fair : (fitting lines p).refused ≡ 0
+    fair = no_refusal _ (fitting lines p).considered (told_of (fitting lines p)) t l.told_is
 
-pub long_room : {p : Plan} (c : Columns) → Modest p → Roomy c most_lines → Roomy c p.placed
-long_room {p} c m r = roomy_less p.placed r (let a = m.few in let b = m.no_more in omega arith)
+    go : (b : Bool) → ltb (length lines) p.considered ≡ b → Fits lines p
+    go true e = let h = rw (fits_not lines p (ltb-true (length lines) p.considered e)) at fair in absurd (omega (arith, h))
+    go false e =
+        let h = ltb-false (length lines) p.considered e in
+        record { is_plan = fits_in lines p h; room = let a = m.no_more in omega arith }
+
+-- and where it is refused for another thing than room, that is the plan's own refusal
+pub fits_refused_by : (lines old new : List Line) (p : Plan) (r : Refusal) → ((n : ℕ) → r ≡ Room n → ⊥) → Lays (fitting lines p) (Err r) old new
+    → Lays p (Err r) old new
+unfolding crowded_plan answer_with
+fits_refused_by lines old new p r other l = go (ltb (length lines) p.considered) refl
+  where
+    go : (b : Bool) → ltb (length lines) p.considered ≡ b → Lays p (Err r) old new
+    go true e =
+        let h = rw (fits_not lines p (ltb-true (length lines) p.considered e)) at l.told_is in
+        absurd (other p.considered (cc h))
+    go false e = rw (fits_in lines p (ltb-false (length lines) p.considered e)) at l
+
+pub long_room : {p : Plan} (lines : List Line) → Modest p → most_lines ≤ length lines → p.placed ≤ length lines
+long_room lines m r = let a = m.few in let b = m.no_more in omega arith

@@ -1,6 +1,6 @@
 -- The cursor of a fill by layers is nowhere negative. That its lines are in range stands in proofs/Layers.antt.
-use Rattle.std.specs.Prelude.{◌≡◌, refl, Bool, true, false, List, ℕ, ◌+◌, ◌<◌, eqb, length, get_or, set, Float}
-use Rattle.std.proofs.Common.{sym, ◌∙◌, not-suc-le-zero, arith, eqb-true, length-set, get_or-set_same, get_or-set_other}
+use Rattle.std.specs.Prelude.{◌≡◌, refl, Bool, true, false, List, ℕ, ◌+◌, ◌<◌, eqb, length, get_or, set, Option, Some, None, IfSome, Float}
+use Rattle.std.proofs.Common.{◌∙◌, not-suc-le-zero, arith, eqb-true, length-set, get_or-set_same, get_or-set_other}
 use Rattle.std.proofs.lemmas.Bool.{eqb-false}
 use Rattle.std.specs.Float.{binary64}
 use Rattle.std.specs.Float.Ieee.{of_bits, lt}
@@ -8,7 +8,6 @@ use Rattle.floats.specs.Ops as Ops
 use Rattle.floats.specs.Ops.{◌⊕◌, none, larger}
 use Rattle.floats.specs.Order.{signed}
 use Rattle.floats.specs.Sums.{add_signed}
-use Rattle.floats.specs.Weak.{true_false}
 use Rattle.domain.specs.Bounds.{most_boxes}
 use Rattle.measures.specs.declared.Container.{Container}
 use Rattle.sheet.specs.Sheets.{no_line}
@@ -18,7 +17,7 @@ use Rattle.layer_state.specs.declared.stand.Stand.{Stand}
 use Rattle.layer_state.specs.declared.stand.Step.{Step}
 use Rattle.layer_fill.specs.declared.LayerFill.{LayerFill}
 use Rattle.layer_cursor.specs.Spot.{new_row, new_layer, past, turn_to}
-use Rattle.layer_state.specs.Stand.{new_of, no_step}
+use Rattle.layer_state.specs.Stand.{new_of}
 use Rattle.layer_fill.specs.Fill.{no_lines, empty, line_of, took}
 use Rattle.lists.specs.Bools.{cond_cases}
 use Rattle.plan_laws.specs.Spots.{Lengths, Sized, InRange, not_negative}
@@ -93,16 +92,13 @@ pub record Right (b : Container) (s : Stand) : Type 0 where
   pub ahead : Ahead s.cursor
 
 pub record Kept (b : Container) (r : Step) : Type 0 where
-  pub spot : r.fits ≡ true → InRange r.at
+  pub spot : InRange r.at
   pub stand : Right b r.next
 
 module _ (b : Container) (sz : Sized b) where
   pub record Spot (p : LayerSpot) : Type 0 where
-    pub range : p.fits ≡ true → InRange p.at
+    pub range : InRange p.at
     pub next_ahead : Ahead p.next
-
-  pub none_kept : (s : Stand) → Right b s → Kept b (no_step s)
-  none_kept s r = record { spot = λ e. true_false (sym e); stand = r }
 
 -- ---- a fill
 
@@ -125,22 +121,20 @@ empty_right b s =
       range = λ j l. absurd (not-suc-le-zero l);
     }
 
-pub took_right : (b : Container) (f : LayerFill) (r : Step) (id instance : ℕ) → f.count < most_boxes → InOrder b f → Kept b r → InOrder b (took f r id instance)
+pub took_right : (b : Container) (f : LayerFill) (r : Option Step) (id instance : ℕ) → f.count < most_boxes → InOrder b f → IfSome r (Kept b)
+    → InOrder b (took f r id instance)
 unfolding took
-took_right b f r id instance room h k =
-    cond_cases (InOrder b) r.fits
-    (λ e.
+took_right b f None id instance room h k = h
+took_right b f (Some r) id instance room h k =
     record {
       long = length-set f.lines f.count (line_of r id instance) ∙ h.long;
       stand = k.stand;
-      range = λ j l. line j l e (eqb j f.count) refl;
-    })
-    (λ _. h)
+      range = λ j l. line j l (eqb j f.count) refl;
+    }
   where
-    line : (j : ℕ) → j < f.count + 1 → r.fits ≡ true → (t : Bool) → eqb j f.count ≡ t
-        → InRange (get_or (set f.lines f.count (line_of r id instance)) j no_line).at
-    line j l e true q =
-        rw (eqb-true j f.count q, get_or-set_same f.lines f.count (line_of r id instance) no_line (rw h.long room)) (k.spot e)
-    line j l e false q =
+    line : (j : ℕ) → j < f.count + 1 → (t : Bool) → eqb j f.count ≡ t → InRange (get_or (set f.lines f.count (line_of r id instance)) j no_line).at
+    line j l true q =
+        rw (eqb-true j f.count q, get_or-set_same f.lines f.count (line_of r id instance) no_line (rw h.long room)) k.spot
+    line j l false q =
         let d = eqb-false j f.count q in
         rw (get_or-set_other f.lines f.count j (line_of r id instance) no_line d) (h.range j (omega (arith, d)))

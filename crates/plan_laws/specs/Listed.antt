@@ -12,15 +12,16 @@ use Rattle.domain.specs.Bounds.{most_kinds}
 use Rattle.lists.specs.Below.{any_below, none_any, any_same}
 use Rattle.lists.specs.Table.{table_at}
 use Rattle.measures.specs.declared.Kind.{Kind}
+use Rattle.sheet.specs.declared.Line.{Line}
 use Rattle.sheet.specs.Sheets.{no_kind}
 use Rattle.plan_unplaced.specs.declared.Left.{Left}
 use Rattle.plan_unplaced.specs.Left.{short_kind, flags_of, push_if, left_after, left_few}
 use Rattle.lists.specs.Below.{is_at}
 
 -- a flag for each kind
-pub flag_at : (kinds : List Kind) (ids instances : List ℕ) (n m k : ℕ) → m ≤ most_kinds → k < m
-    → get_or (flags_of kinds ids instances n m) k false ≡ short_kind kinds ids instances n k
-flag_at kinds ids instances n m k few l = table_at false most_kinds (short_kind kinds ids instances n) m k false few l
+pub flag_at : (kinds : List Kind) (lines : List Line) (n m k : ℕ) → m ≤ most_kinds → k < m
+    → get_or (flags_of kinds lines n m) k false ≡ short_kind kinds lines n k
+flag_at kinds lines n m k few l = table_at false most_kinds (short_kind kinds lines n) m k false few l
 
 -- ---- one id more
 
@@ -93,7 +94,7 @@ module _ (kinds : List Kind) (flags : List Bool) where
 
   -- an old place after a push
   old_entry : (m : ℕ) (p : Left) (i : ℕ) → i < p.count → Entry kinds flags m p i
-      → Entry kinds flags (suc m) (record { refused = p.refused; count = p.count + 1; ids = set p.ids p.count (id_of m) }) i
+      → Entry kinds flags (suc m) (record { count = p.count + 1; ids = set p.ids p.count (id_of m) }) i
   old_entry m p i l h =
       record {
         kind = h.kind;
@@ -105,7 +106,7 @@ module _ (kinds : List Kind) (flags : List Bool) where
 
   -- and the new one
   new_entry : (m : ℕ) (p : Left) → get_or flags m false ≡ true → Apart kinds m → p.count < length p.ids → ((i : ℕ) → i < p.count → Entry kinds flags m p i)
-      → Entry kinds flags (suc m) (record { refused = p.refused; count = p.count + 1; ids = set p.ids p.count (id_of m) }) p.count
+      → Entry kinds flags (suc m) (record { count = p.count + 1; ids = set p.ids p.count (id_of m) }) p.count
   unfolding is_at
   new_entry m p f apart r h =
       record {

@@ -7,13 +7,13 @@ use mathlib.Core.List.{List, []}
 use borrow.Author.Tests.{lt-ltb}
 use Rattle.std.proofs.Math.ListN.{get_or}
 use Rattle.lists.specs.Table.{table_at}
-use Rattle.domain.specs.Bounds.{most_kinds, most_lines, most_unplaced}
+use Rattle.domain.specs.Bounds.{most_kinds, most_unplaced}
 use Rattle.lists.specs.Below.{any_below, any_none, any_same, all_none}
 use Rattle.sheet.specs.declared.Sheet.{Sheet}
 use Rattle.sheet.specs.Sheets.{kind_at, unplaced_at, same_id, sheet_refusal}
 use Rattle.sheet.specs.Accepted.{Accepted, accepted}
 use Rattle.plan_unplaced.specs.declared.Left.{Left}
-use Rattle.plan_unplaced.specs.Short.{is_short, names_of}
+use Rattle.plan_unplaced.specs.Short.{is_short}
 use Rattle.plan_unplaced.specs.Left.{short_kind, flags_of, left_after, left_few}
 use Rattle.plan_sheet.specs.Plans.{Plan}
 use Rattle.plan_sheet.specs.Planned.{planned_sheet}
@@ -29,7 +29,7 @@ use Rattle.plan_laws.specs.Listed.{flag_at, Apart, Entry, flagged_listed, entrie
 
 -- ---- the two counts are one: a kind is short for the checker where it is for the unplaced list
 pub short_same : (s : Sheet) → Accepted s → (k : ℕ) → k < s.many.kinds
-    → short s k ≡ short_kind s.kinds (names_of s.lines most_lines).ids (names_of s.lines most_lines).instances s.many.lines k
+    → short s k ≡ short_kind s.kinds s.lines s.many.lines k
 unfolding short short_kind is_short
 short_same s a k l = rw (packed_distinct s a k l)
 
@@ -46,7 +46,7 @@ apart s a k l j i = any_none (same_id s.kinds k) k j (a.kind_sound k l).id_new i
 
 module _ (s : Sheet) (a : Accepted s) where
   abbrev flags : List Bool
-  flags = flags_of s.kinds (names_of s.lines most_lines).ids (names_of s.lines most_lines).instances s.many.lines s.many.kinds
+  flags = flags_of s.kinds s.lines s.many.lines s.many.kinds
 
   abbrev left : Left
   left = left_after s.kinds flags s.many.kinds
@@ -54,7 +54,7 @@ module _ (s : Sheet) (a : Accepted s) where
   flag_is : (k : ℕ) → k < s.many.kinds → short s k ≡ get_or flags k false
   flag_is k l =
       short_same s a k l
-      ∙ sym (flag_at s.kinds (names_of s.lines most_lines).ids (names_of s.lines most_lines).instances s.many.lines s.many.kinds k
+      ∙ sym (flag_at s.kinds s.lines s.many.lines s.many.kinds k
       a.few_of.kinds l)
 
   module _ (many : s.many.unplaced ≡ left.count) (same : (j : ℕ) → j < left.count → unplaced_at s j ≡ get_or left.ids j 0) where
@@ -99,7 +99,7 @@ unfolding planned_sheet
 sheet_none_lost order p z t h =
     let s = planned_sheet order p in
     let few = left_few order.kinds
-    (flags_of order.kinds (names_of p.lines most_lines).ids (names_of p.lines most_lines).instances p.placed order.many.kinds)
+    (flags_of order.kinds p.lines p.placed order.many.kinds)
     order.many.kinds in
     let m = (accepted order z).few_of.kinds in
     none_lost s (accepted s t) h.count_is

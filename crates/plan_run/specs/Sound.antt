@@ -1,36 +1,38 @@
--- What is handed out of the columns in which a plan was laid is the plan, if its unplaced list is what its lines leave; and the plans of the runs are such.
-use Rattle.std.specs.Prelude.{◌≡◌, refl, Bool, true, false, ℕ, zero, suc, ◌*◌, ◌<◌, eqb, length}
+-- What is handed out of the lines that a plan was laid in is the plan, if its unplaced list is what its lines leave; and the plans of the runs are such.
+use Rattle.std.specs.Prelude.{◌≡◌, refl, Bool, true, false, ℕ, ◌*◌, ◌<◌, ◌≤◌, eqb, length, Result, Ok, Err}
 use Rattle.std.proofs.Math.Path.{sym, ap}
 use Rattle.std.proofs.Common.{◌∙◌, arith}
 use Rattle.std.proofs.Math.Bool.{cond}
 use mathlib.Core.List.{List, ◌++◌}
-use borrow.Author.Tests.{eqb-true, eqb-false, ne_eqb}
+use borrow.Author.Tests.{eqb-true, eqb-false}
 use Rattle.std.proofs.Math.ListN.{drop}
 use Rattle.lists.specs.Below.{all_same}
 use Rattle.lists.specs.Rows.{wrote}
 use Rattle.domain.specs.Bounds.{most_lines}
-use Rattle.domain.specs.Refusals.{or_else}
+use Rattle.domain.specs.declared.Refusal.{Refusal}
+use Rattle.domain.specs.Refusal.{no_refusal, accepted_as}
 use Rattle.sheet.specs.declared.Sheet.{Sheet}
 use Rattle.sheet.specs.Sheets.{sheet_refusal}
-use Rattle.sheet.specs.Columns.{Columns}
+use Rattle.sheet.specs.declared.Line.{Line}
 use Rattle.file_read.specs.Form.{right_shape}
 use Rattle.file_read.specs.Reading.{sheet_of, refusal_of}
 use Rattle.file_read.specs.Refusal.{sheet_decides, sheet_sound}
 use Rattle.plan_sheet.specs.declared.Told.{Told}
 use Rattle.plan_sheet.specs.declared.Packed.{Packed}
-use Rattle.plan_sheet.specs.Plans.{Plan, refused_plan, plan_refusal}
-use Rattle.plan_sheet.specs.Columns.{plan_by, by_roomy, row_by, words_by}
-use Rattle.plan_sheet.specs.Room.{fitting, Roomy}
-use Rattle.plan_sheet.specs.LaidLaws.{laid_roomy}
+use Rattle.plan_unplaced.specs.declared.Left.{Left}
+use Rattle.plan_sheet.specs.Plans.{Plan, refused_plan}
+use Rattle.plan_sheet.specs.Lent.{plan_by, by_long, words_by}
+use Rattle.plan_sheet.specs.Room.{fitting}
+use Rattle.plan_sheet.specs.LaidLaws.{laid_at, laid_length}
 use Rattle.plan_sheet.specs.Hand.{words_of, line_words, hand_refusal, handed_of, slots_of}
 use Rattle.plan_sheet.specs.Laid.{plan_in, told_of, laid_in, Lays}
 use Rattle.point_run.specs.Runs.{ep_packing_of}
 use Rattle.layer_plan.specs.Fills.{layer_fill_of, items_refusal, place_items_of, items_right}
 use Rattle.layer_plan.specs.Items.{items_in}
 use Rattle.plan_laws.specs.Accepted.{Lists, points_lists, layers_lists, items_lists}
-use Rattle.plan_laws.specs.Laid.{laid_left, line_laid, count_is, ids_are}
+use Rattle.plan_laws.specs.Laid.{laid_left, count_is, ids_are}
 use Rattle.plan_laws.specs.Fits.{Modest, fits_long, long_room}
-use Rattle.plan_run.specs.Packs.{Packs, laid_plan}
+use Rattle.plan_run.specs.Packs.{Packs, Gives, laid_plan, laid_made, packs_refused}
 
 -- a plan of the order in a load file: the file is accepted, and the unplaced list is what the plan's lines leave
 pub record Sound (f : List ℕ) (p : Plan) : Type 0 where
@@ -39,87 +41,59 @@ pub record Sound (f : List ℕ) (p : Plan) : Type 0 where
 
 -- ---- what is handed out is the plan
 
--- a plan's own refusal comes first, whatever its unplaced list is
-own_first : (refused placed unplaced room : ℕ) → (refused ≡ 0 → ⊥) → hand_refusal refused placed unplaced room ≡ refused
-unfolding hand_refusal plan_refusal or_else
-own_first zero placed unplaced room n = absurd (n refl)
-own_first (suc r) placed unplaced room n = refl
+-- a plan that is made
+module _ (f : List ℕ) (p : Plan) (old : List Line) (room : p.placed ≤ length old) (fair : p.refused ≡ 0) (sound : Sound f p) where
+  abbrev left : Left
+  left = laid_left f (told_of p) (laid_in old p)
 
-module _ (f : List ℕ) (p : Plan) (old : Columns) (room : Roomy old p.placed) where
   abbrev out : Plan
-  out = laid_plan f (told_of p) (laid_in old p)
+  out = plan_by (told_of p) left (laid_in old p)
 
-  -- the columns have a cell for each line, so it is refused as the plan is
+  -- there is a line for each that was placed, so it is not refused either
   own_refusal : out.refused ≡ p.refused
-  unfolding laid_plan
-  own_refusal = by_roomy (told_of p) (laid_left f (told_of p) (laid_in old p)) (laid_in old p) (laid_roomy old p p.placed room)
+  own_refusal = by_long (told_of p) left (laid_in old p) (rw (laid_length old p) room) ∙ sym fair
 
-  -- a refused plan
-  module _ (refused : p.refused ≡ 0 → ⊥) where
-    answer_refused : (lent : ℕ) → handed_of out lent ≡ handed_of p lent
-    unfolding handed_of laid_plan plan_by
-    answer_refused lent =
-        rw (
-          own_refusal,
-          own_first p.refused p.placed (laid_left f (told_of p) (laid_in old p)).count lent refused,
-          own_first p.refused p.placed p.unplaced lent refused,
-          ne_eqb p.refused 0 refused,
-        )
+  answer_made : (lent : ℕ) → handed_of out lent ≡ handed_of p lent
+  unfolding handed_of plan_by
+  answer_made lent =
+      rw (own_refusal, count_is f sound.order_accepted p sound.lists old room, ids_are f sound.order_accepted p sound.lists old room)
 
-    words_refused : (o : List ℕ) → slots_of out o ≡ slots_of p o
-    unfolding slots_of laid_plan plan_by
-    words_refused o =
-        rw (
-          own_refusal,
-          own_first p.refused p.placed (laid_left f (told_of p) (laid_in old p)).count (length o) refused,
-          own_first p.refused p.placed p.unplaced (length o) refused,
-          ne_eqb p.refused 0 refused,
-        )
+  -- the words of line i
+  row_is : (i : ℕ) → i < p.placed → line_words (laid_in old p) i ≡ line_words p.lines i
+  unfolding line_words
+  row_is i l = ap words_of (laid_at old p i room l)
 
-  -- a plan that is made
-  module _ (sound : Sound f p) where
-    answer_made : (lent : ℕ) → handed_of out lent ≡ handed_of p lent
-    unfolding handed_of laid_plan plan_by
-    answer_made lent =
-        rw (own_refusal, count_is f sound.order_accepted p sound.lists old room, ids_are f sound.order_accepted p sound.lists old room)
+  rows_are : (o : List ℕ) → wrote (line_words out.lines) 6 p.placed o ≡ wrote (line_words p.lines) 6 p.placed o
+  unfolding wrote plan_by
+  rows_are o =
+      sym (words_by (laid_in old p) p.placed o sound.lists.lines_few)
+      ∙ ap (λ (l : List ℕ). l ++ drop (p.placed * 6) o) (all_same (line_words (laid_in old p)) (line_words p.lines) p.placed row_is)
 
-    -- the words of line i, which do not tell its case
-    row_is : (i : ℕ) → i < p.placed → row_by (laid_in old p) i ≡ line_words p.lines i
-    unfolding row_by line_words
-    row_is i l = ap words_of (line_laid p old room i l)
+  words_made : (o : List ℕ) → slots_of out o ≡ slots_of p o
+  unfolding slots_of plan_by
+  words_made o =
+      rw (own_refusal, count_is f sound.order_accepted p sound.lists old room)
+      (ap (λ (w : List ℕ). cond (eqb (hand_refusal p.refused p.placed p.unplaced (length o)) 0) w o) (rows_are o))
 
-    rows_are : (o : List ℕ) → wrote (line_words out.lines) 6 p.placed o ≡ wrote (line_words p.lines) 6 p.placed o
-    unfolding wrote laid_plan plan_by
-    rows_are o =
-        sym (words_by (laid_in old p) p.placed o sound.lists.lines_few)
-        ∙ ap (λ (l : List ℕ). l ++ drop (p.placed * 6) o) (all_same (row_by (laid_in old p)) (line_words p.lines) p.placed row_is)
+  packs_out : (o : List ℕ) (r : Result Packed Refusal) (after : List ℕ) → Packs out o r after → Packs p o r after
+  packs_out o r after h = record { answer_is = h.answer_is ∙ answer_made (length o); words_are = h.words_are ∙ words_made o }
 
-    words_made : (o : List ℕ) → slots_of out o ≡ slots_of p o
-    unfolding slots_of laid_plan plan_by
-    words_made o =
-        rw (own_refusal, count_is f sound.order_accepted p sound.lists old room)
-        (ap (λ (w : List ℕ). cond (eqb (hand_refusal p.refused p.placed p.unplaced (length o)) 0) w o) (rows_are o))
+  pub packs_made : (o : List ℕ) (r : Result Packed Refusal) (after : List ℕ) → Packs (laid_plan f (told_of p) (laid_in old p)) o r after → Packs p o r after
+  packs_made o r after h = packs_out o r after (rw (laid_made f (told_of p) (laid_in old p) sound.order_accepted sound.lists.lines_few) at h)
 
-  module _ (sound : p.refused ≡ 0 → Sound f p) where
-    answer_same : (lent : ℕ) (b : Bool) → eqb p.refused 0 ≡ b → handed_of out lent ≡ handed_of p lent
-    answer_same lent true e = answer_made (sound (eqb-true p.refused 0 e)) lent
-    answer_same lent false e = answer_refused (eqb-false p.refused 0 e) lent
+-- as many lines as there may be
+module _ (f : List ℕ) (p : Plan) (old : List Line) (long : most_lines ≤ length old) (modest : Modest p) (sound : p.refused ≡ 0 → Sound f p) where
+  packs_of : (t : Result Told Refusal) (c : List Line) (o : List ℕ) (r : Result Packed Refusal) (after : List ℕ) → Lays p t old c
+      → Gives f t c o r after → Packs p o r after
+  packs_of (Ok t) c o r after l h =
+      let z = no_refusal p.refused p.considered (told_of p) t l.told_is in
+      let e = accepted_as p.refused p.considered (told_of p) t l.told_is in
+      packs_made f p old (long_room old modest long) z (sound z) o r after (rw (e, l.lines_are) at h)
+  packs_of (Err e) c o r after l h = rw (h.answer_is, h.words_are) (packs_refused p o (told_of p) e l.told_is)
 
-    words_same : (o : List ℕ) (b : Bool) → eqb p.refused 0 ≡ b → slots_of out o ≡ slots_of p o
-    words_same o true e = words_made (sound (eqb-true p.refused 0 e)) o
-    words_same o false e = words_refused (eqb-false p.refused 0 e) o
-
-    packs_of : (t : Told) (c : Columns) (o : List ℕ) (r : Packed) (after : List ℕ) → Lays p t old c → Packs (laid_plan f t c) o r after → Packs p o r after
-    packs_of t c o r after l h =
-        let a = rw (l.told_is, l.columns_are) at h.answer_is in
-        let b = rw (l.told_is, l.columns_are) at h.words_are in
-        record { answer_is = a ∙ answer_same (length o) _ refl; words_are = b ∙ words_same o _ refl }
-
--- columns with a cell for each line that there may be
-pub packs : (f : List ℕ) (p : Plan) (old : Columns) → Roomy old most_lines → Modest p → (p.refused ≡ 0 → Sound f p)
-    → (t : Told) (c : Columns) (o : List ℕ) (r : Packed) (after : List ℕ) → Lays (fitting old p) t old c → Packs (laid_plan f t c) o r after → Packs p o r after
-packs f p old long modest sound t c o r after l h =
-    packs_of f p old (long_room old modest long) sound t c o r after (rw (fits_long old modest long) at l) h
+  pub packs : (t : Result Told Refusal) (c : List Line) (o : List ℕ) (r : Result Packed Refusal) (after : List ℕ) → Lays (fitting old p) t old c
+      → Gives f t c o r after → Packs p o r after
+  packs t c o r after l h = packs_of t c o r after (rw (fits_long old modest long) at l) h
 
 -- ---- the plans of the runs
 

@@ -1,12 +1,14 @@
 -- A plan handed out into lent words, six to a line: id, instance, orientation, and the bits of x, y and z.
-use Rattle.std.specs.Prelude.{◌≡◌, refl, cond, ◌||◌, List, [], ◌∷◌, ℕ, suc, ◌+◌, ◌*◌, ◌/◌, ◌≤◌, eqb, ltb, length, get_or, set, replicate}
-use Rattle.std.proofs.Common.{arith, ltb-false}
+use Rattle.std.specs.Prelude.{◌≡◌, refl, cond, ◌||◌, List, [], ◌∷◌, ℕ, zero, suc, ◌+◌, ◌*◌, ◌/◌, ◌≤◌, eqb, ltb, length, get_or, set, Result, Err}
+use Rattle.std.proofs.Common.{arith, ltb-false, ne_eqb}
 use Rattle.std.proofs.lemmas.List.Edits.{sets}
 use Rattle.std.specs.Float.{binary64}
 use Rattle.std.specs.Float.Ieee.{to_bits}
-use Rattle.floats.specs.Ops.{none, x, y, z}
+use Rattle.floats.specs.Ops.{x, y, z}
 use Rattle.domain.specs.Bounds.{most_kinds, most_lines}
+use Rattle.domain.specs.declared.Refusal.{Refusal}
 use Rattle.domain.specs.Refusals.{when, or_else}
+use Rattle.domain.specs.Refusal.{answer_with, refused_as}
 use Rattle.lists.specs.Bools.{or_left}
 use Rattle.domain.specs.Laws.{or_else_first, or_else_second, when_none}
 use Rattle.sheet.specs.declared.Line.{Line}
@@ -28,36 +30,20 @@ line_words lines i = words_of (get_or lines i no_line)
 unfoldable pub hand_refusal : ℕ → ℕ → ℕ → ℕ → ℕ
 hand_refusal refused placed unplaced room = or_else (plan_refusal refused placed unplaced) (when (ltb (room / 6) placed) 6)
 
-abbrev refusal_for : Plan → ℕ → ℕ
+abbrev pub refusal_for : Plan → ℕ → ℕ
 refusal_for p room = hand_refusal p.refused p.placed p.unplaced room
 
--- RULES: Refusals. A refusal gives its number, and 6 the count that needs room too
-abbrev pub refused_pack : ℕ → ℕ → Packed
-refused_pack r placed =
-    record {
-      refused = r;
-      needed = cond (eqb r 6) placed 0;
-      placed = 0;
-      considered = 0;
-      utilization = none;
-      unplaced = 0;
-      ids = replicate most_kinds 0;
-    }
+-- the lines that need room, which 6 tells: those placed, or where the plan itself is refused those that it needs
+abbrev pub needed_for : ℕ → ℕ → ℕ → ℕ
+needed_for refused placed considered = cond (eqb refused 0) placed considered
+
+-- what is handed out
+abbrev pub packed_of : Plan → Packed
+packed_of p = record { placed = p.placed; considered = p.considered; utilization = p.utilization; unplaced = p.unplaced; ids = p.ids }
 
 -- the answer, with room for so many words
-unfoldable pub handed_of : Plan → ℕ → Packed
-handed_of p room =
-    cond (eqb (refusal_for p room) 0)
-    (record {
-      refused = 0;
-      needed = p.placed;
-      placed = p.placed;
-      considered = p.considered;
-      utilization = p.utilization;
-      unplaced = p.unplaced;
-      ids = p.ids;
-    })
-    (refused_pack (refusal_for p room) p.placed)
+unfoldable pub handed_of : Plan → ℕ → Result Packed Refusal
+handed_of p room = answer_with (refusal_for p room) (needed_for p.refused p.placed p.considered) (packed_of p)
 
 -- the words afterwards
 unfoldable pub slots_of : Plan → List ℕ → List ℕ
@@ -78,6 +64,28 @@ room_of refused placed unplaced room h =
     let a = ltb-false most_lines placed (or_left (ltb most_lines placed) _ (when_none over 1 r)) in
     let b = ltb-false (room / 6) placed (when_none (ltb (room / 6) placed) 5 (or_else_second (or_else refused (when over 2)) _ h)) in
     record { lines = a; words = omega arith }
+
+-- a plan that is refused is handed out as that refusal, and no word changes
+own_refusal : {A B : Type 0} (refused considered placed unplaced room : ℕ) (u : A) (v : B) (r : Refusal) → Err r ≡ answer_with refused considered u
+    → Err r ≡ answer_with (hand_refusal refused placed unplaced room) (needed_for refused placed considered) v
+unfolding hand_refusal plan_refusal or_else answer_with
+own_refusal zero considered placed unplaced room u v r e = absurd (cc)
+own_refusal (suc n) considered placed unplaced room u v r e =
+    rw (ne_eqb (suc n) 0 (λ z. omega arith)) (refused_as (suc n) considered u v r e)
+
+pub handed_refused : {A : Type 0} (p : Plan) (room : ℕ) (u : A) (r : Refusal) → Err r ≡ answer_with p.refused p.considered u → Err r ≡ handed_of p room
+unfolding handed_of
+handed_refused p room u r e = own_refusal p.refused p.considered p.placed p.unplaced room u (packed_of p) r e
+
+own_words : {A : Type 0} (refused considered placed unplaced room : ℕ) (u : A) (r : Refusal) (new old : List ℕ) → Err r ≡ answer_with refused considered u
+    → old ≡ cond (eqb (hand_refusal refused placed unplaced room) 0) new old
+unfolding hand_refusal plan_refusal or_else answer_with
+own_words zero considered placed unplaced room u r new old e = absurd (cc)
+own_words (suc n) considered placed unplaced room u r new old e = rw (ne_eqb (suc n) 0 (λ z. omega arith)) refl
+
+pub slots_refused : {A : Type 0} (p : Plan) (o : List ℕ) (u : A) (r : Refusal) → Err r ≡ answer_with p.refused p.considered u → o ≡ slots_of p o
+unfolding slots_of
+slots_refused p o u r e = own_words p.refused p.considered p.placed p.unplaced (length o) u r _ o e
 
 pub six : (lines : List Line) (i : ℕ) → length (line_words lines i) ≡ 6
 unfolding line_words

@@ -1,64 +1,70 @@
--- A plan that was laid in columns: what its cells hold, and that the unplaced list may be made from them.
-use Rattle.std.specs.Prelude.{◌≡◌, true, false, List, ℕ, ◌<◌, ◌≤◌, length, get_or}
-use Rattle.std.proofs.Common.{sym, ap, ◌∙◌, arith}
+-- A plan that was laid in lent memory: what lines stand there, and that the unplaced list may be made from them.
+use Rattle.std.specs.Prelude.{◌≡◌, refl, Bool, true, false, List, ℕ, ◌<◌, ◌≤◌, ltb, length, get_or, Ok, Err}
+use Rattle.std.proofs.Common.{ap, ◌∙◌, arith, ltb-true, ltb-false}
+use Rattle.domain.specs.declared.Refusal.{Refusal}
+use Rattle.domain.specs.Refusals.{when}
+use Rattle.domain.specs.Refusal.{answer_with, answer_of, refused_as, no_refusal, no_number}
+use Rattle.domain.specs.Laws.{when_none}
 use Rattle.lists.specs.Table.{filled_at, filled_length}
-use Rattle.domain.specs.Bounds.{most_lines}
 use Rattle.measures.specs.declared.Kind.{Kind}
 use Rattle.sheet.specs.declared.Line.{Line}
-use Rattle.sheet.specs.Columns.{Columns, id_of, instance_of, orientation_of, spot_of}
-use Rattle.plan_unplaced.specs.Short.{names_of, named}
-use Rattle.plan_unplaced.specs.Left.{left_of, Reached, names_reached}
+use Rattle.sheet.specs.declared.Sheet.{Sheet}
+use Rattle.sheet.specs.Sheets.{no_line}
+use Rattle.file_read.specs.Reading.{refusal_of}
+use Rattle.plan_unplaced.specs.declared.Left.{Left}
+use Rattle.plan_unplaced.specs.Left.{over_bound, left_of, left_long}
 use Rattle.plan_unplaced.specs.Same.{left_same}
-use Rattle.plan_sheet.specs.Room.{has_room, fitting, Roomy, fits_in, fits_not, fits_refused}
-use Rattle.plan_sheet.specs.Plans.{Plan, refused_plan, left_by}
+use Rattle.plan_sheet.specs.Room.{fitting, fits_in, fits_not, fits_refused}
+use Rattle.plan_sheet.specs.Plans.{Plan, refused_plan, crowded_plan, left_by}
 use Rattle.plan_sheet.specs.declared.Told.{Told}
-use Rattle.plan_sheet.specs.Refused.{refused_told, lays_refused}
-use Rattle.plan_sheet.specs.Laid.{placed_at, laid, laid_in, Lays}
+use Rattle.plan_sheet.specs.Refused.{lays_refused, has_number, refused_in}
+use Rattle.plan_sheet.specs.Laid.{plan_in, told_of, placed_at, laid_in, Lays}
 
--- cell i is of line i
-pub laid_at : {A : Type 0} (part : Line → A) (old : List A) (p : Plan) (i : ℕ) (d : A) → p.placed ≤ length old → i < p.placed
-    → get_or (laid part old p) i d ≡ part (placed_at p i)
-unfolding laid
-laid_at part old p i d room l = filled_at old (λ j. part (placed_at p j)) p.placed i d room l
+-- line i is the plan's
+pub laid_at : (old : List Line) (p : Plan) (i : ℕ) → p.placed ≤ length old → i < p.placed → get_or (laid_in old p) i no_line ≡ placed_at p i
+unfolding laid_in
+laid_at old p i room l = filled_at old (placed_at p) p.placed i no_line room l
 
--- and laying keeps the columns' lengths
-pub laid_length : {A : Type 0} (part : Line → A) (old : List A) (p : Plan) → length (laid part old p) ≡ length old
-unfolding laid
-laid_length part old p = filled_length old (λ j. part (placed_at p j)) p.placed
+-- and laying keeps the length
+pub laid_length : (old : List Line) (p : Plan) → length (laid_in old p) ≡ length old
+unfolding laid_in
+laid_length old p = filled_length old (placed_at p) p.placed
 
-pub laid_roomy : (old : Columns) (p : Plan) (n : ℕ) → Roomy old n → Roomy (laid_in old p) n
-laid_roomy old p n r =
-    record {
-      ids = rw (laid_length id_of old.ids p) r.ids;
-      instances = rw (laid_length instance_of old.instances p) r.instances;
-      turns = rw (laid_length orientation_of old.turns p) r.turns;
-      spots = rw (laid_length spot_of old.spots p) r.spots;
-    }
+pub left_laid : (kinds : List Kind) (m : ℕ) (p : Plan) (old : List Line) → p.placed ≤ length old
+    → left_of kinds m (laid_in old p) p.placed ≡ answer_of (when (over_bound m p.placed) 2) (left_by kinds m p.lines p.placed)
+left_laid kinds m p old room =
+    left_long kinds m (laid_in old p) p.placed (let e = laid_length old p in omega (arith, e))
+    ∙ ap (λ (l : Left). answer_of (when (over_bound m p.placed) 2) l) (left_same (laid_in old p) p.lines p.placed (λ j l. laid_at old p j room l) kinds m)
 
-pub left_laid : (kinds : List Kind) (m : ℕ) (p : Plan) (ids instances : List ℕ) → p.placed ≤ most_lines → Reached ids instances p.placed
-    → left_of kinds m (laid id_of ids p) (laid instance_of instances p) p.placed ≡ left_by kinds m p.lines p.placed
-left_laid kinds m p ids instances few r =
-    left_same (laid id_of ids p) (names_of p.lines most_lines).ids (laid instance_of instances p) (names_of p.lines most_lines).instances p.placed
-    (λ j l. laid_at id_of ids p j 0 r.ids_long l ∙ sym (named p.lines most_lines j (omega arith) (omega arith)).id_is)
-    (λ j l. laid_at instance_of instances p j 0 r.instances_long l ∙ sym (named p.lines most_lines j (omega arith) (omega arith)).instance_is)
-    kinds m
-    (record { ids_long = rw (laid_length id_of ids p) r.ids_long; instances_long = rw (laid_length instance_of instances p) r.instances_long })
-    (names_reached p.lines most_lines p.placed few)
+-- ---- a plan laid in lines that have room for it, or refused in others
 
--- ---- a plan laid in columns that have room for it, or refused in others
-
-module _ (old : Columns) (p : Plan) where
+module _ (old : List Line) (p : Plan) where
   -- a plan that is refused anyway
-  pub lays_refused_in : (r : ℕ) → p ≡ refused_plan r → Lays (fitting old p) (refused_told r) old old
-  lays_refused_in r e = lays_refused (fitting old p) r old (ap (fitting old) e ∙ fits_refused old r)
+  pub lays_refused_in : {A : Type 0} (n : ℕ) (u : A) (r : Refusal) → p ≡ refused_plan n → Err r ≡ answer_of n u → Lays (fitting old p) (Err r) old old
+  unfolding refused_plan
+  lays_refused_in n u r e h = rw (e, fits_refused old n) (lays_refused (refused_plan n) r old refl (refused_as n 0 u _ r h))
 
-  pub lays_short : has_room old p.considered ≡ false → Lays (fitting old p) (refused_told 6) old old
-  lays_short e = lays_refused (fitting old p) 6 old (fits_not old p e)
+  module _ (n : ℕ) (considered : n ≡ p.considered) where
+    -- one for which there are too few lines
+    pub lays_short : {A : Type 0} (u : A) (r : Refusal) → Err r ≡ answer_with (when (ltb (length old) n) 6) n u → Lays (fitting old p) (Err r) old old
+    unfolding crowded_plan
+    lays_short u r h = go (ltb (length old) n) refl
+      where
+        go : (b : Bool) → ltb (length old) n ≡ b → Lays (fitting old p) (Err r) old old
+        go true e =
+            rw (fits_not old p (rw considered at (ltb-true (length old) n e)))
+            (lays_refused (crowded_plan p.considered) r old refl (refused_as 6 p.considered u _ r (rw (← considered) (rw e at h))))
+        go false e = absurd (has_number 0 n u r (rw e at h) refl)
 
-  pub lays_fitting : (r : Told) (new : Columns) → has_room old p.considered ≡ true → Lays p r old new → Lays (fitting old p) r old new
-  lays_fitting r new e h = rw (fits_in old p e) h
+    -- one that is made, and there are as many
+    pub lays_fitting : {A : Type 0} (u w : A) (r : Told) (new : List Line) → Ok w ≡ answer_with (when (ltb (length old) n) 6) n u → p.refused ≡ 0
+        → r ≡ told_of p → new ≡ laid_in old p → Lays (fitting old p) (Ok r) old new
+    lays_fitting u w r new h fair told lines =
+        let few = ltb-false (length old) n (when_none (ltb (length old) n) 5 (no_refusal (when (ltb (length old) n) 6) n u w h)) in
+        rw (fits_in old p (rw considered at few)) (record { told_is = rw told (no_number p.refused p.considered (told_of p) fair); lines_are = lines })
 
--- column by column
-pub laid_all : (p : Plan) (old new : Columns) → new.ids ≡ laid id_of old.ids p → new.instances ≡ laid instance_of old.instances p
-    → new.turns ≡ laid orientation_of old.turns p → new.spots ≡ laid spot_of old.spots p → new ≡ laid_in old p
-laid_all p old new a b c d = rw (← a, ← b, ← c, ← d)
+-- the plan of the order in a file that is refused
+pub lays_unread : {A : Type 0} (run : Sheet → ℕ → Plan) (f : List ℕ) (consider : ℕ) (old : List Line) (u : A) (r : Refusal) → Err r ≡ answer_of (refusal_of f) u
+    → Lays (fitting old (plan_in run f consider)) (Err r) old old
+lays_unread run f consider old u r e =
+    lays_refused_in old (plan_in run f consider) (refusal_of f) u r (refused_in run f consider (has_number (refusal_of f) 0 u r e)) e

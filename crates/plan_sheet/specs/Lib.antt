@@ -1,10 +1,9 @@
 -- A finished plan: how it is made, and how it is handed out.
 pub mod Plans
 pub mod Hand
-pub mod Boxes
 pub mod Planned
 pub mod Laid
 pub mod Refused
-pub mod Columns
+pub mod Lent
 pub mod LaidLaws
 pub mod Room

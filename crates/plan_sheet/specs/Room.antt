@@ -1,28 +1,25 @@
--- A plan is laid in lent columns that have room for it. RULES: Lent memory
-use Rattle.std.specs.Prelude.{◌≡◌, true, false, cond, ℕ}
-use Rattle.std.proofs.Common.{arith}
-use Rattle.sheet.specs.Columns.{Columns}
-pub use Rattle.sheet.specs.Room.{has_room, Roomy, roomy, has_room_lem, roomy_less, AsLong, long_roomy}
-use Rattle.plan_sheet.specs.Plans.{Plan, refused_plan}
+-- A plan is laid in lent lines that have room for it. RULES: Lent memory
+use Rattle.std.specs.Prelude.{◌≡◌, cond, List, ℕ, ◌<◌, ◌≤◌, ltb, length}
+use Rattle.std.proofs.Common.{arith, le-ltb}
+use borrow.Author.Tests.{lt-ltb}
+use Rattle.sheet.specs.declared.Line.{Line}
+use Rattle.plan_sheet.specs.Plans.{Plan, refused_plan, crowded_plan}
 
--- a plan is laid in columns that have room for each box considered; in others it is refused by 6
-unfoldable pub fitting : Columns → Plan → Plan
-fitting c p = cond (has_room c p.considered) p (refused_plan 6)
+-- a plan is laid in lines of which there is one for each box considered; in fewer it is refused by 6, which tells how many are considered
+unfoldable pub fitting : List Line → Plan → Plan
+fitting lines p = cond (ltb (length lines) p.considered) (crowded_plan p.considered) p
 
 -- ---- laws
 
-pub fits_in : (c : Columns) (p : Plan) → has_room c p.considered ≡ true → fitting c p ≡ p
+pub fits_in : (lines : List Line) (p : Plan) → p.considered ≤ length lines → fitting lines p ≡ p
 unfolding fitting
-fits_in c p e = rw e
+fits_in lines p h = rw (le-ltb (length lines) p.considered h)
 
-pub fits_not : (c : Columns) (p : Plan) → has_room c p.considered ≡ false → fitting c p ≡ refused_plan 6
+pub fits_not : (lines : List Line) (p : Plan) → length lines < p.considered → fitting lines p ≡ crowded_plan p.considered
 unfolding fitting
-fits_not c p e = rw e
+fits_not lines p h = rw (lt-ltb (length lines) p.considered h)
 
 -- a refused plan considers no box, and fits in everywhere
-pub fits_refused : (c : Columns) (r : ℕ) → fitting c (refused_plan r) ≡ refused_plan r
+pub fits_refused : (lines : List Line) (r : ℕ) → fitting lines (refused_plan r) ≡ refused_plan r
 unfolding fitting refused_plan
-fits_refused c r = rw (has_room_lem c 0 none)
-  where
-    none : Roomy c 0
-    none = record { ids = omega arith; instances = omega arith; turns = omega arith; spots = omega arith }
+fits_refused lines r = rw (le-ltb (length lines) 0 (omega arith))

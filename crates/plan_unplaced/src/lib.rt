@@ -6,17 +6,18 @@
 ghost use Rattle.std.specs.Prelude.{◌≡◌, true, false, ◌≤◌, ◌<◌, length, get_or, set};
 ghost use Rattle.domain.specs.Bounds.{most_kinds, most_lines};
 ghost use Rattle.plan_unplaced.specs.Short.{distinct_placed, is_short};
-ghost use Rattle.plan_unplaced.specs.Left.{push_if, no_left, Reached};
+ghost use Rattle.plan_unplaced.specs.Left.{push_if};
 ghost use Rattle.plan_unplaced.specs.Marks.{mark_of, fresh_of, no_marks, Marked, Strangers, Adds};
 
 mod in_file; // in_file.rt: the list of an order in a load file
 
 pub use in_file::{left_in, unplaced_list};
+use sheet::Line;
 
 // The first `count` ids.
+// Stays: a count beside the ids, as they are handed out by value and no heap is used.
 #[derive(Clone, Copy)]
 pub struct Left {
-    pub refused: u32,
     pub count: usize,
     pub ids: [u32; domain::MOST_KINDS],
 }
@@ -29,16 +30,6 @@ const SPARE: usize = domain::MOST_LINES;
 // So many lines are looked at together before each is.
 const BLOCK: usize = 32;
 
-// 1 for an instance that was not seen before.
-fn fresh(seen: bool) -> usize
-    ensures { (result ≡ fresh_of seen) × (result ≤ 1) }
-{
-    if seen {
-        return 0;
-    }
-    1
-}
-
 // Sets the mark of a line, its instance's where it places this kind in range: 1 where it was not set before. Any other
 // line's is the spare one, which is set and stays so.
 fn mark(seen: &mut [bool; MARKS], same: bool, instance: u32, quantity: u32) -> usize
@@ -48,7 +39,7 @@ fn mark(seen: &mut [bool; MARKS], same: bool, instance: u32, quantity: u32) -> u
 {
     if same & (instance < quantity) {
         let at = instance as usize;
-        let r = fresh(seen[at]);
+        let r = usize::from(!seen[at]);
         seen[at] = true;
         return r;
     }
@@ -65,15 +56,13 @@ fn no_marks() -> [bool; MARKS]
 }
 
 // Whether one of the lines from `from` up to `to` has the id: no branch, so that many are looked at together.
-fn some_named(ids: &[u32], from: usize, to: usize, id: u32) -> bool
-    requires { (from ≤ to) × (to ≤ length ids.now) }
-    ensures { result ≡ false → Strangers ids.now id from to }
+fn some_named(lines: &[Line], from: usize, to: usize, id: u32) -> bool
+    requires { (from ≤ to) × (to ≤ length lines.now) }
+    ensures { result ≡ false → Strangers lines.now id from to }
 {
     let mut named = false;
-    let mut j = from;
-    while j < to {
-        named = named | (ids[j] == id);
-        j += 1;
+    for j in from..to {
+        named = named | (lines[j].id == id);
     }
     named
 }
@@ -83,48 +72,45 @@ fn block_end(j: usize, n: usize) -> usize
     requires { j < n }
     ensures { (j < result) × (result ≤ n) }
 {
-    if n - j < BLOCK {
-        return n;
-    }
-    j + BLOCK
+    j + BLOCK.min(n - j)
 }
 
 // Sets the marks of the lines from `from` up to `to`: how many were not set before.
 fn mark_lines(
     seen: &mut [bool; MARKS],
-    ids: &[u32],
-    instances: &[u32],
+    lines: &[Line],
     from: usize,
     to: usize,
     id: u32,
     quantity: u32,
 ) -> usize
-    requires { (from ≤ to) × Reached ids.now instances.now to × (quantity ≤ most_lines) × Marked ids.now instances.now from id quantity seen.old }
-    ensures { Adds ids.now instances.now from to id quantity result seen.new }
+    requires { (from ≤ to) × (to ≤ length lines.now) × (quantity ≤ most_lines) × Marked lines.now from id quantity seen.old }
+    ensures { Adds lines.now from to id quantity result seen.new }
 {
     let mut count = 0;
-    let mut j = from;
-    while j < to {
-        count += mark(seen, ids[j] == id, instances[j], quantity);
-        j += 1;
+    for j in from..to {
+        let l = lines[j];
+        count += mark(seen, l.id == id, l.instance, quantity);
     }
     count
 }
 
 // How many distinct instances of a kind, in range, the first n lines place. Once all are placed, no line adds one; lines of other kinds are passed over
 // a block at a time.
-fn distinct_placed(ids: &[u32], instances: &[u32], n: usize, id: u32, quantity: u32) -> usize
-    requires { (n ≤ most_lines) × Reached ids.now instances.now n × (quantity ≤ most_lines) }
-    ensures { result ≡ distinct_placed ids.now instances.now n id quantity }
+fn distinct_placed(lines: &[Line], n: usize, id: u32, quantity: u32) -> usize
+    requires { (n ≤ most_lines) × (n ≤ length lines.now) × (quantity ≤ most_lines) }
+    ensures { result ≡ distinct_placed lines.now n id quantity }
 {
     let most = quantity as usize;
     let mut seen = no_marks();
     let mut count = 0;
     let mut j = 0;
+    // Stays: a turn takes a block of lines, and the last may come before the lines end.
+    // Stays: it goes on by a block at a time and stops early; a for with a step and a break is no plainer.
     while (j < n) & (count < most) {
         let to = block_end(j, n);
-        if some_named(ids, j, to, id) {
-            count += mark_lines(&mut seen, ids, instances, j, to, id, quantity);
+        if some_named(lines, j, to, id) {
+            count += mark_lines(&mut seen, lines, j, to, id, quantity);
         }
         j = to;
     }
@@ -132,14 +118,14 @@ fn distinct_placed(ids: &[u32], instances: &[u32], n: usize, id: u32, quantity: 
 }
 
 // Whether fewer are placed than there are. More than there can be lines are never all placed.
-fn is_short(ids: &[u32], instances: &[u32], n: usize, id: u32, quantity: u32) -> bool
-    requires { (n ≤ most_lines) × Reached ids.now instances.now n }
-    ensures { result ≡ is_short ids.now instances.now n id quantity }
+fn is_short(lines: &[Line], n: usize, id: u32, quantity: u32) -> bool
+    requires { (n ≤ most_lines) × (n ≤ length lines.now) }
+    ensures { result ≡ is_short lines.now n id quantity }
 {
     if quantity as usize > domain::MOST_LINES {
         return true;
     }
-    distinct_placed(ids, instances, n, id, quantity) < quantity as usize
+    distinct_placed(lines, n, id, quantity) < quantity as usize
 }
 
 // The list with one id more, where the test holds.
@@ -158,13 +144,7 @@ fn push_if(left: Left, short: bool, id: u32) -> Left
 }
 
 // No id.
-fn no_left(refused: u32) -> Left
-    ensures { result ≡ no_left refused }
-{
-    let ids = [0u32; domain::MOST_KINDS];
-    Left {
-        refused,
-        count: 0,
-        ids,
-    }
-}
+const NO_LEFT: Left = Left {
+    count: 0,
+    ids: [0; domain::MOST_KINDS],
+};

@@ -1,28 +1,28 @@
 -- The state after a box has been placed: its point is gone, up to three new ones are stored, and the box stands. RULES: First placer: new points
-use Rattle.std.specs.Prelude.{◌≡◌, refl, Bool, true, false, not, cond, ◌&&◌, List, [], ◌∷◌, ℕ, ◌+◌, ◌-◌, ◌*◌, ◌/◌, ◌<◌, ◌≤◌, ltb, length, set, Float}
-use Rattle.std.proofs.Common.{sym, ◌∙◌, arith, lt-ltb, le-ltb, ltb-true, ltb-false}
+use Rattle.std.specs.Prelude.{◌≡◌, refl, Bool, true, false, not, cond, ◌&&◌, List, [], ◌∷◌, ℕ, ◌+◌, ◌-◌, ◌<◌, ◌≤◌, ltb, length, set, Float}
+use Rattle.std.proofs.Common.{◌∙◌, arith, lt-ltb, length-set}
 use Rattle.std.specs.Float.Ieee.{lt}
 use Rattle.floats.specs.Ops.{x, y, z}
 use Rattle.lists.specs.Bools.{cond_keeps}
 use Rattle.measures.specs.declared.Container.{Container}
 use Rattle.measures.specs.Asked.{asked_of}
 use Rattle.point_state.specs.declared.Label.{Label}
+use Rattle.point_state.specs.declared.Spot.{Spot}
 use Rattle.point_state.specs.declared.ExtremePointSet.{ExtremePointSet}
 use Rattle.point_state.specs.All.{all}
-use Rattle.point_state.specs.Triples.{three, put3, has_triple, has_triple_lem, put3_length}
-use Rattle.point_state.specs.Stores.{point_at}
+use Rattle.point_state.specs.Stores.{point_in, point_at, spot_in}
 use Rattle.point_fit.specs.Ends.{ends_of, past_of, below_ends, buries}
 use Rattle.point_grow.specs.declared.Corners.{Corners}
 
 -- ---- which new points are kept
 
 -- the point is in none of the first n boxes
-unfoldable pub free : List Float → ℕ → List Float → Bool
-free boxes n at = all (λ i. not (buries (three boxes (2 * i)) (three boxes (2 * i + 1)) at)) n
+unfoldable pub free : List Spot → ℕ → List Float → Bool
+free boxes n at = all (λ i. not (buries (spot_in boxes i).position (spot_in boxes i).dimensions at)) n
 
 -- a new point is kept where every axis is below the ends and no box placed earlier has it strictly inside; `short` says that the moved axis is below,
 -- which the Rust tests first
-unfoldable pub valid : List Float → ℕ → List Float → Bool → List Float → Bool
+unfoldable pub valid : List Spot → ℕ → List Float → Bool → List Float → Bool
 valid boxes held ends short at = (short && below_ends ends at) && free boxes held at
 
 -- the points that move one axis
@@ -36,7 +36,7 @@ abbrev pub along_z : List Float → List Float → List Float
 along_z past at = x at ∷ y at ∷ z past ∷ []
 
 -- three points follow a box, each moving one axis past it by the distance asked: which of them are kept, and where the moved axes end
-unfoldable pub corners_of : Container → List Float → ℕ → List Float → List Float → Corners
+unfoldable pub corners_of : Container → List Spot → ℕ → List Float → List Float → Corners
 corners_of c boxes held at size =
     let past = past_of at size (asked_of c) in
     let ends = ends_of c in
@@ -51,18 +51,18 @@ corners_of c boxes held at size =
 
 pub record Stock : Type 0 where
   pub live : ℕ
-  pub points : List Float
+  pub points : List (List Float)
 
 -- the point that took the box is removed: the last point takes its place
 abbrev pub dropped : ℕ → Stock → Stock
-dropped k s = record { live = s.live - 1; points = put3 s.points k (three s.points (s.live - 1)) }
+dropped k s = record { live = s.live - 1; points = set s.points k (point_in s.points (s.live - 1)) }
 
 -- one more point where it is kept: the count and the points after it
 unfoldable pub count_with : Bool → ℕ → ℕ
 count_with kept n = cond kept (n + 1) n
 
-unfoldable pub points_with : Bool → List Float → ℕ → List Float → List Float
-points_with kept points n at = cond kept (put3 points n at) points
+unfoldable pub points_with : Bool → List (List Float) → ℕ → List Float → List (List Float)
+points_with kept points n at = cond kept (set points n at) points
 
 abbrev pub added : Bool → List Float → Stock → Stock
 added kept at s = record { live = count_with kept s.live; points = points_with kept s.points s.live at }
@@ -74,26 +74,22 @@ grown n at s =
 -- ---- the state
 
 -- the points after a box of these lengths has gone to point k
-unfoldable pub stock_by : Container → List Float → ℕ → ℕ → List Float → ℕ → List Float → Stock
+unfoldable pub stock_by : Container → List Spot → ℕ → ℕ → List (List Float) → ℕ → List Float → Stock
 stock_by c boxes held live points k size =
-    let at = three points k in grown (corners_of c boxes held at size) at (dropped k (record { live = live; points = points }))
+    let at = point_in points k in grown (corners_of c boxes held at size) at (dropped k (record { live = live; points = points }))
 
 -- where there is no point k, no room for two points more, or none for one box more, all stays
-unfoldable pub restock_of : Container → List Float → ℕ → ℕ → List Float → ℕ → List Float → Stock
+unfoldable pub restock_of : Container → List Spot → ℕ → ℕ → List (List Float) → ℕ → List Float → Stock
 restock_of c boxes held live points k size =
     let same : Stock = record { live = live; points = points } in
-    cond (ltb k live) (cond (has_triple points (live + 1)) (cond (has_triple boxes (2 * held + 1)) (stock_by c boxes held live points k size) same) same) same
+    cond (ltb k live) (cond (ltb (live + 1) (length points)) (cond (ltb held (length boxes)) (stock_by c boxes held live points k size) same) same) same
 
 abbrev pub stock_of : ExtremePointSet → ℕ → List Float → Stock
 stock_of s k size = stock_by s.container s.boxes s.held s.live s.points k size
 
--- a box with its position and its dimensions as box n
-unfoldable pub put_box : List Float → ℕ → List Float → List Float → List Float
-put_box boxes n at size = put3 (put3 boxes (2 * n) at) (2 * n + 1) size
-
--- past the store nothing is stored
-unfoldable pub box_in : List Float → ℕ → List Float → List Float → List Float
-box_in boxes n at size = cond (has_triple boxes (2 * n + 1)) (put_box boxes n at size) boxes
+-- a box with its position and its dimensions as box n. Past the store nothing is stored.
+abbrev pub put_box : List Spot → ℕ → List Float → List Float → List Spot
+put_box boxes n at size = set boxes n (record { position = at; dimensions = size })
 
 -- a box of this label and these lengths placed at point k
 unfoldable pub after_box : ExtremePointSet → ℕ → Label → List Float → ExtremePointSet
@@ -118,24 +114,12 @@ unfolding count_with
 count_with_lem true n = record { low = omega arith; high = omega arith }
 count_with_lem false n = record { low = omega arith; high = omega arith }
 
--- two triples more have room where the number of triples says so
-pub two_fit : (live cells : ℕ) → ltb (live + 1) (cells / 3) ≡ ltb (3 * (live + 1) + 2) cells
-two_fit live cells = go (ltb (live + 1) (cells / 3)) refl
-  where
-    go : (b : Bool) → ltb (live + 1) (cells / 3) ≡ b → b ≡ ltb (3 * (live + 1) + 2) cells
-    go true e = let h = ltb-true (live + 1) (cells / 3) e in sym (lt-ltb (3 * (live + 1) + 2) cells (omega arith))
-    go false e = let h = ltb-false (live + 1) (cells / 3) e in sym (le-ltb (3 * (live + 1) + 2) cells (omega arith))
-
 -- with such a point, and room
-pub restock_in : (c : Container) (boxes : List Float) (held live : ℕ) (points : List Float) (k : ℕ) (size : List Float) → k < live
-    → 3 * (live + 1) + 2 < length points → 3 * (2 * held + 1) + 2 < length boxes
+pub restock_in : (c : Container) (boxes : List Spot) (held live : ℕ) (points : List (List Float)) (k : ℕ) (size : List Float) → k < live
+    → live + 1 < length points → held < length boxes
     → restock_of c boxes held live points k size ≡ stock_by c boxes held live points k size
 unfolding restock_of
-restock_in c boxes held live points k size h l r = rw (lt-ltb k live h, has_triple_lem points (live + 1) l, has_triple_lem boxes (2 * held + 1) r)
-
-pub box_in_lem : (boxes : List Float) (n : ℕ) (at size : List Float) → 3 * (2 * n + 1) + 2 < length boxes → box_in boxes n at size ≡ put_box boxes n at size
-unfolding box_in
-box_in_lem boxes n at size h = rw (has_triple_lem boxes (2 * n + 1) h)
+restock_in c boxes held live points k size h l r = rw (lt-ltb k live h, lt-ltb (live + 1) (length points) l, lt-ltb held (length boxes) r)
 
 -- one point goes and at most three come
 pub stock_few : (s : ExtremePointSet) (k : ℕ) (size : List Float) → k < s.live → (stock_of s k size).live ≤ s.live + 2
@@ -150,15 +134,11 @@ stock_few s k size l =
     omega arith
 
 -- the stores keep their lengths
-pub with_long : (kept : Bool) (points : List Float) (n : ℕ) (at : List Float) → length (points_with kept points n at) ≡ length points
+pub with_long : (kept : Bool) (points : List (List Float)) (n : ℕ) (at : List Float) → length (points_with kept points n at) ≡ length points
 unfolding points_with
-with_long kept points n at = cond_keeps (λ (l : List Float). length l ≡ length points) kept (put3_length points n at) refl
+with_long kept points n at = cond_keeps (λ (l : List (List Float)). length l ≡ length points) kept (length-set points n at) refl
 
-pub stock_long : (c : Container) (boxes : List Float) (held live : ℕ) (points : List Float) (k : ℕ) (size : List Float)
+pub stock_long : (c : Container) (boxes : List Spot) (held live : ℕ) (points : List (List Float)) (k : ℕ) (size : List Float)
     → length (stock_by c boxes held live points k size).points ≡ length points
 unfolding stock_by
-stock_long c boxes held live points k size = with_long _ _ _ _ ∙ (with_long _ _ _ _ ∙ (with_long _ _ _ _ ∙ put3_length points k _))
-
-pub box_long : (boxes : List Float) (n : ℕ) (at size : List Float) → length (put_box boxes n at size) ≡ length boxes
-unfolding put_box
-box_long boxes n at size = put3_length _ (2 * n + 1) size ∙ put3_length boxes (2 * n) at
+stock_long c boxes held live points k size = with_long _ _ _ _ ∙ (with_long _ _ _ _ ∙ (with_long _ _ _ _ ∙ length-set points k _))

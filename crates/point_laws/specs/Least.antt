@@ -1,16 +1,15 @@
 -- The scan finds the least point that passes, and says that there is none exactly when none passes, where no point holds a NaN.
-use Rattle.std.specs.Prelude.{◌≡◌, true, false, ◌&&◌, ◌||◌, List, Float}
+use Rattle.std.specs.Prelude.{◌≡◌, true, false, ◌&&◌, cond, List, Float, Option, Some, None}
 use Rattle.std.proofs.Math.Path.{refl}
 use Rattle.std.proofs.Common.{sym, ◌∙◌, not-suc-le-zero, arith}
-use Rattle.std.proofs.Math.Bool.{Bool, not, cond}
+use Rattle.std.proofs.Math.Bool.{Bool}
 use Prim.Native.Nat.{ℕ, zero, suc, ◌<◌}
 use Rattle.floats.specs.Ops.{x, y, z}
 use Rattle.lists.specs.Below.{upto}
 use Rattle.floats.specs.Weak.{Number, Weak, on_weak, lex_weak, true_false}
-use Rattle.point_state.specs.Triples.{three}
-use Rattle.point_scan.specs.declared.Choice.{Choice}
+use Rattle.point_state.specs.Stores.{point_in}
 use Rattle.point_fit.specs.Sooner.{sooner}
-use Rattle.point_scan.specs.Choose.{takes, step_by, scan_by, scan_found}
+use Rattle.point_scan.specs.Choose.{asked, takes, step_by, scan_by, scan_found}
 
 -- a point without a NaN
 pub record Sound (v : List Float) : Type 0 where
@@ -23,65 +22,66 @@ unfolding sooner
 sooner_weak = lex_weak (on_weak z (λ v h. h.z_is)) (lex_weak (on_weak y (λ v h. h.y_is)) (on_weak x (λ v h. h.x_is)))
 
 -- the choice c among the first n points: it passes and no point that passes stands before it, or none passes
-pub record Right (passes : ℕ → Bool) (points : List Float) (n : ℕ) (c : Choice) : Type 0 where
-  pub passing : c.found ≡ true → passes c.index ≡ true
-  pub least : c.found ≡ true → (j : ℕ) → j < n → passes j ≡ true → sooner (three points j) (three points c.index) ≡ false
-  pub absent : c.found ≡ false → (j : ℕ) → j < n → passes j ≡ false
+pub record Right (passes : ℕ → Bool) (points : List (List Float)) (n : ℕ) (c : Option ℕ) : Type 0 where
+  pub passing : (k : ℕ) → c ≡ Some k → passes k ≡ true
+  pub least : (k : ℕ) → c ≡ Some k → (j : ℕ) → j < n → passes j ≡ true → sooner (point_in points j) (point_in points k) ≡ false
+  pub absent : c ≡ None → (j : ℕ) → j < n → passes j ≡ false
 
-module _ (passes : ℕ → Bool) (points : List Float) where
+module _ (passes : ℕ → Bool) (points : List (List Float)) where
   -- point j does not stand before point k
   abbrev Behind : ℕ → ℕ → Type 0
-  Behind k j = passes j ≡ true → sooner (three points j) (three points k) ≡ false
+  Behind k j = passes j ≡ true → sooner (point_in points j) (point_in points k) ≡ false
 
-  step_right : (n : ℕ) (c : Choice) → (c.found ≡ true → c.index < n) → ((j : ℕ) → j < suc n → Sound (three points j)) → Right passes points n c
-      → Right passes points (suc n) (step_by (passes n) (three points n) (three points c.index) n c)
-  unfolding step_by takes
-  step_right n c w sound h = go c.found refl (sooner (three points n) (three points c.index)) refl (passes n) refl
+  -- a choice, by the point that it is
+  right_at : (n k : ℕ) → passes k ≡ true → ((j : ℕ) → j < n → Behind k j) → Right passes points n (Some k)
+  right_at n k g l =
+      record {
+        passing = λ i e. let q : k ≡ i = cc in rw (← q) g;
+        least = λ i e. let q : k ≡ i = cc in rw (← q) l;
+        absent = λ e. absurd cc;
+      }
+
+  itself : (n : ℕ) (v : Bool) → sooner (point_in points n) (point_in points n) ≡ v → v ≡ false
+  itself n false e = refl
+  itself n true e = sym e ∙ sooner_weak.asym (point_in points n) (point_in points n) e
+
+  step_right : (n : ℕ) (c : Option ℕ) → ((k : ℕ) → c ≡ Some k → k < n) → ((j : ℕ) → j < suc n → Sound (point_in points j)) → Right passes points n c
+      → Right passes points (suc n) (step_by (passes n) points n c)
+  unfolding step_by takes asked
+  step_right n None w sound h = go (passes n) refl
     where
-      Goal : Bool → Bool → Bool → Type 0
-      Goal f s g = let t = not (f && not s) && g in Right passes points (suc n) (record { found = f || t; index = cond t n c.index })
-
-      itself : (v : Bool) → sooner (three points n) (three points n) ≡ v → v ≡ false
-      itself false e = refl
-      itself true e = sym e ∙ sooner_weak.asym (three points n) (three points n) e
-
-      keep : c.found ≡ true → sooner (three points n) (three points c.index) ≡ false
-          → Right passes points (suc n) (record { found = true; index = c.index })
-      keep f s =
-          record { passing = λ _. h.passing f; least = λ _. upto (Behind c.index) n (h.least f) (λ _. s); absent = λ e. true_false e }
-
-      skip : (f : Bool) → c.found ≡ f → passes n ≡ false → Right passes points (suc n) (record { found = f; index = c.index })
-      skip f e g =
+      go : (g : Bool) → passes n ≡ g → Right passes points (suc n) (cond g (Some n) None)
+      go true e = right_at (suc n) n e (upto (Behind n) n (λ j l q. true_false (sym q ∙ h.absent refl j l)) (λ _. itself n _ refl))
+      go false e =
           record {
-            passing = λ q. h.passing (e ∙ q);
-            least = λ q. upto (Behind c.index) n (h.least (e ∙ q)) (λ p. true_false (sym p ∙ g));
-            absent = λ q. upto (λ j. passes j ≡ false) n (h.absent (e ∙ q)) g;
+            passing = λ k q. absurd cc;
+            least = λ k q. absurd cc;
+            absent = λ q. upto (λ j. passes j ≡ false) n (h.absent refl) e;
           }
-
-      take : passes n ≡ true → ((j : ℕ) → j < n → Behind n j) → Right passes points (suc n) (record { found = true; index = n })
-      take g l =
-          record { passing = λ _. g; least = λ _. upto (Behind n) n l (λ _. itself _ refl); absent = λ e. true_false e }
-
+  step_right n (Some k) w sound h = go (sooner (point_in points n) (point_in points k)) refl (passes n) refl
+    where
       -- j does not stand before n, which stands before the choice so far
-      behind : c.found ≡ true → sooner (three points n) (three points c.index) ≡ true → (j : ℕ) → j < n → passes j ≡ true → (v : Bool)
-          → sooner (three points j) (three points n) ≡ v → v ≡ false
-      behind f s j l g false e = refl
-      behind f s j l g true e =
-          let a = three points n in
-          let b = three points j in
-          true_false (sym (sooner_weak.neg a b (three points c.index) (sound n (omega arith)) (sound j (omega arith))
-          (sound c.index (omega (arith, w f))) s (sooner_weak.asym b a e)) ∙ h.least f j l g)
+      behind : sooner (point_in points n) (point_in points k) ≡ true → (j : ℕ) → j < n → passes j ≡ true → (v : Bool)
+          → sooner (point_in points j) (point_in points n) ≡ v → v ≡ false
+      behind s j l g false e = refl
+      behind s j l g true e =
+          let a = point_in points n in
+          let b = point_in points j in
+          let m = w k refl in
+          true_false (sym (sooner_weak.neg a b (point_in points k) (sound n (omega arith)) (sound j (omega arith))
+          (sound k (omega arith)) s (sooner_weak.asym b a e)) ∙ h.least k refl j l g)
 
-      go : (f : Bool) → c.found ≡ f → (s : Bool) → sooner (three points n) (three points c.index) ≡ s → (g : Bool) → passes n ≡ g → Goal f s g
-      go true ef false es g eg = keep ef es
-      go true ef true es true eg = take eg (λ j l q. behind ef es j l q _ refl)
-      go true ef true es false eg = skip true ef eg
-      go false ef s es true eg = take eg (λ j l q. true_false (sym q ∙ h.absent ef j l))
-      go false ef s es false eg = skip false ef eg
+      keep : Behind k n → Right passes points (suc n) (Some k)
+      keep e = right_at (suc n) k (h.passing k refl) (upto (Behind k) n (h.least k refl) e)
 
-  pub scan_right : (n : ℕ) → ((j : ℕ) → j < n → Sound (three points j)) → Right passes points n (scan_by passes points n)
+      go : (s : Bool) → sooner (point_in points n) (point_in points k) ≡ s → (g : Bool) → passes n ≡ g
+          → Right passes points (suc n) (cond (s && g) (Some n) (Some k))
+      go true es true eg = right_at (suc n) n eg (upto (Behind n) n (λ j l q. behind es j l q _ refl) (λ _. itself n _ refl))
+      go true es false eg = keep (λ q. true_false (sym q ∙ eg))
+      go false es g eg = keep (λ _. es)
+
+  pub scan_right : (n : ℕ) → ((j : ℕ) → j < n → Sound (point_in points j)) → Right passes points n (scan_by passes points n)
   unfolding scan_by
-  scan_right zero sound =
-      record { passing = λ e. true_false (sym e); least = λ e. true_false (sym e); absent = λ _ j l. absurd (not-suc-le-zero l) }
+  scan_right zero sound = record { passing = λ k e. absurd cc; least = λ k e. absurd cc; absent = λ _ j l. absurd (not-suc-le-zero l) }
   scan_right (suc n) sound =
       step_right n (scan_by passes points n) (scan_found passes points n) sound (scan_right n (λ j l. sound j (omega arith)))

@@ -1,5 +1,6 @@
 -- The stored points as a multiset: after a placement the old ones less the chosen plus the kept new ones; with none passing they stay.
-use Rattle.std.specs.Prelude.{◌≡◌, refl, Bool, true, false, cond, eqb, Float}
+use Rattle.std.specs.Prelude.{◌≡◌, refl, Bool, true, false, cond, eqb, set, Float, Some, Ok}
+use Rattle.std.proofs.Common.{length-set, get_or-set_same, get_or-set_other}
 use Rattle.std.proofs.Common.{sym, ◌∙◌, ⊎_elim, eq-or-lt_of_le, le_of_suc-le-suc, not-suc-le-zero, add-one, eqb-true}
 use mathlib.Core.List.{List, [], ◌∷◌, Permᴰ}
 use Prim.Native.Nat.{ℕ, zero, suc, ◌+◌, ◌-◌, ◌*◌, ◌<◌, ◌≤◌}
@@ -11,21 +12,20 @@ use Rattle.domain.specs.Bounds.{most_boxes}
 use Rattle.measures.specs.declared.Kind.{Kind}
 use Rattle.measures.specs.Orders.{lengths_in}
 use Rattle.point_state.specs.declared.ExtremePointSet.{ExtremePointSet}
-use Rattle.point_state.specs.Triples.{cells, most_points, three, put3, put3_length, three_same, three_other}
-use Rattle.point_state.specs.Stores.{point_at}
+use Rattle.point_state.specs.Stores.{most_points, point_in, point_at}
 use Rattle.point_place.specs.declared.Tried.{Tried}
 use Rattle.lists.specs.Bools.{cond_cases}
 use Rattle.point_scan.specs.Choose.{best_of, scan_found}
 use Rattle.point_grow.specs.Grow.{Stock, dropped, added, count_with, points_with, count_with_lem, Between, along_x, along_y, along_z, corners_of, stock_by}
 use Rattle.point_grow.specs.Grow.{stock_of, after_box}
-use Rattle.point_place.specs.Place.{stood, refusal_of, placed_by, tried_of, ready}
+use Rattle.point_place.specs.Place.{stood, refusal_of, placed_cases, tried_of, ready}
 use Rattle.point_laws.specs.Clean.{Clean}
 use Rattle.point_laws.specs.Reach.{Reached, reached_clean}
 
 -- the first n points of a store
-unfoldable pub first_of : List Float → ℕ → List (List Float)
+unfoldable pub first_of : List (List Float) → ℕ → List (List Float)
 first_of points zero = []
-first_of points (suc n) = three points n ∷ first_of points n
+first_of points (suc n) = point_in points n ∷ first_of points n
 
 abbrev pub points_of : ExtremePointSet → List (List Float)
 points_of s = first_of s.points s.live
@@ -42,29 +42,29 @@ with_kept s at size l =
 
 -- ---- the stores
 
-first_same : (a b : List Float) (n : ℕ) → ((j : ℕ) → j < n → three a j ≡ three b j) → first_of a n ≡ first_of b n
+first_same : (a b : List (List Float)) (n : ℕ) → ((j : ℕ) → j < n → point_in a j ≡ point_in b j) → first_of a n ≡ first_of b n
 unfolding first_of
 first_same a b zero h = refl
 first_same a b (suc n) h = rw (h n (omega arith), first_same a b n (λ j l. h j (omega arith)))
 
 -- a point stored over another: the same points but for these two
-first_put : (points : List Float) (k n : ℕ) (t : List Float) → 3 * k + 2 < length points → k < n
-    → Permᴰ (three points k ∷ first_of (put3 points k t) n) ((x t ∷ y t ∷ z t ∷ []) ∷ first_of points n)
+first_put : (points : List (List Float)) (k n : ℕ) (t : List Float) → k < length points → k < n
+    → Permᴰ (point_in points k ∷ first_of (set points k t) n) (t ∷ first_of points n)
 unfolding first_of
 first_put points k zero t room l = absurd (not-suc-le-zero l)
 first_put points k (suc n) t room l = ⊎_elim here (λ i. below i (first_put points k n t room i)) (eq-or-lt_of_le (le_of_suc-le-suc l))
   where
     Goal : Type 0
-    Goal = Permᴰ (three points k ∷ three (put3 points k t) n ∷ first_of (put3 points k t) n) ((x t ∷ y t ∷ z t ∷ []) ∷ three points n ∷ first_of points n)
+    Goal = Permᴰ (point_in points k ∷ point_in (set points k t) n ∷ first_of (set points k t) n) (t ∷ point_in points n ∷ first_of points n)
 
     here : k ≡ n → Goal
     here e =
-        rw (← e, three_same points k t room, first_same (put3 points k t) points k (λ j i. three_other points k j t (λ q. omega arith)))
+        rw (← e, get_or-set_same points k t [] room, first_same (set points k t) points k (λ j i. get_or-set_other points k j t [] (λ q. omega arith)))
         (mathlib.Core.List.Permᴰ.swap refl refl)
 
-    below : k < n → Permᴰ (three points k ∷ first_of (put3 points k t) n) ((x t ∷ y t ∷ z t ∷ []) ∷ first_of points n) → Goal
+    below : k < n → Permᴰ (point_in points k ∷ first_of (set points k t) n) (t ∷ first_of points n) → Goal
     below i p =
-        rw (three_other points k n t (λ q. omega arith))
+        rw (get_or-set_other points k n t [] (λ q. omega arith))
         (mathlib.Core.List.Permᴰ.trans (mathlib.Core.List.Permᴰ.swap refl refl)
         (mathlib.Core.List.Permᴰ.trans (mathlib.Core.List.Permᴰ.cons refl p) (mathlib.Core.List.Permᴰ.swap refl refl)))
 
@@ -72,32 +72,32 @@ abbrev listed : Stock → List (List Float)
 listed s = first_of s.points s.live
 
 -- the chosen point goes, and the last takes its place
-drop_perm : (points : List Float) (n k : ℕ) → suc n ≤ most_points → length points ≡ cells → k < suc n
-    → Permᴰ (three points k ∷ first_of (put3 points k (three points n)) n) (first_of points (suc n))
-unfolding first_of three
+drop_perm : (points : List (List Float)) (n k : ℕ) → suc n ≤ most_points → length points ≡ most_points → k < suc n
+    → Permᴰ (point_in points k ∷ first_of (set points k (point_in points n)) n) (first_of points (suc n))
+unfolding first_of
 drop_perm points n k few long l =
     ⊎_elim
-    (λ e. rw (e, first_same (put3 points n (three points n)) points n (λ j i. three_other points n j (three points n) (λ q. omega arith)))
+    (λ e. rw (e, first_same (set points n (point_in points n)) points n (λ j i. get_or-set_other points n j (point_in points n) [] (λ q. omega arith)))
     (mathlib.Core.List.Permᴰ.refl _))
-    (λ i. first_put points k n (three points n) (rw long (omega arith)) i)
+    (λ i. first_put points k n (point_in points n) (rw long (omega arith)) i)
     (eq-or-lt_of_le (le_of_suc-le-suc l))
 
 -- a kept point comes
-add_list : (s : Stock) (kept : Bool) (at : List Float) → s.live < most_points → length s.points ≡ cells
-    → listed (added kept at s) ≡ plus kept (x at ∷ y at ∷ z at ∷ []) (listed s)
+add_list : (s : Stock) (kept : Bool) (at : List Float) → s.live < most_points → length s.points ≡ most_points
+    → listed (added kept at s) ≡ plus kept at (listed s)
 unfolding count_with points_with first_of
 add_list s true at room long =
     rw (
       add-one s.live,
-      three_same s.points s.live at (rw long (omega arith)),
-      first_same (put3 s.points s.live at) s.points s.live
-          (λ j l. three_other s.points s.live j at (λ q. omega arith)),
+      get_or-set_same s.points s.live at [] (rw long (omega arith)),
+      first_same (set s.points s.live at) s.points s.live
+          (λ j l. get_or-set_other s.points s.live j at [] (λ q. omega arith)),
     )
 add_list s false at room long = refl
 
-add_long : (s : Stock) (kept : Bool) (at : List Float) → length s.points ≡ cells → length (added kept at s).points ≡ cells
+add_long : (s : Stock) (kept : Bool) (at : List Float) → length s.points ≡ most_points → length (added kept at s).points ≡ most_points
 unfolding points_with
-add_long s true at long = put3_length s.points s.live at ∙ long
+add_long s true at long = length-set s.points s.live at ∙ long
 add_long s false at long = long
 
 plus_perm : (p : List Float) (kept : Bool) (at : List Float) (d l : List (List Float)) → Permᴰ (p ∷ d) l → Permᴰ (p ∷ plus kept at d) (plus kept at l)
@@ -116,9 +116,9 @@ module _ (s : ExtremePointSet) (k : ℕ) (size : List Float) (h : Clean s) (l : 
       let b₁ : Between s₀.live s₁.live (s₀.live + 1) = count_with_lem new.alongx s₀.live in
       let b₂ : Between s₁.live s₂.live (s₁.live + 1) = count_with_lem new.alongy s₁.live in
       let f = h.few in
-      let n₀ : length s₀.points ≡ cells = put3_length s.points k _ ∙ h.points_long in
-      let n₁ : length s₁.points ≡ cells = add_long s₀ new.alongx (along_x new.past at) n₀ in
-      let n₂ : length s₂.points ≡ cells = add_long s₁ new.alongy (along_y new.past at) n₁ in
+      let n₀ : length s₀.points ≡ most_points = length-set s.points k _ ∙ h.points_long in
+      let n₁ : length s₁.points ≡ most_points = add_long s₀ new.alongx (along_x new.past at) n₀ in
+      let n₂ : length s₂.points ≡ most_points = add_long s₁ new.alongy (along_y new.past at) n₁ in
       let e : suc (s.live - 1) ≡ s.live = omega arith in
       let p₀ : Permᴰ (at ∷ listed s₀) (points_of s) = rw e at (drop_perm s.points (s.live - 1) k (omega arith) h.points_long (omega arith)) in
       rw (
@@ -131,26 +131,25 @@ module _ (s : ExtremePointSet) (k : ℕ) (size : List Float) (h : Clean s) (l : 
 -- ---- the place call
 
 -- a box that stands: its point is removed, and the new points that are kept come. RULES: First placer: new points
-pub points_after : {s : ExtremePointSet} (kind : Kind) (instance o : ℕ) → Reached s → stood (tried_of s kind instance o).answer ≡ true
-    → Permᴰ ((tried_of s kind instance o).at ∷ points_of (tried_of s kind instance o).next)
-    (with_kept s (tried_of s kind instance o).at (lengths_in kind o) (points_of s))
-unfolding tried_of placed_by best_of after_box
-points_after {s} kind instance o r =
+pub points_after : {s : ExtremePointSet} (kind : Kind) (instance o : ℕ) (at : List Float) → Reached s → (tried_of s kind instance o).answer ≡ Ok (Some at)
+    → Permᴰ (at ∷ points_of (tried_of s kind instance o).next) (with_kept s at (lengths_in kind o) (points_of s))
+unfolding tried_of best_of after_box
+points_after {s} kind instance o at r =
     let size = lengths_in kind o in
-    let c = best_of s size in
-    cond_cases (λ (t : Tried). stood t.answer ≡ true → Permᴰ (t.at ∷ points_of t.next) (with_kept s t.at size (points_of s)))
+    cond_cases (λ (t : Tried). t.answer ≡ Ok (Some at) → Permᴰ (at ∷ points_of t.next) (with_kept s at size (points_of s)))
     (eqb (refusal_of s.live s.held kind) 0)
     (λ e.
-    cond_cases (λ (t : Tried). stood t.answer ≡ true → Permᴰ (t.at ∷ points_of t.next) (with_kept s t.at size (points_of s))) c.found
-    (λ f _. stock_perm s c.index size (reached_clean r) (scan_found _ s.points s.live f) (ready _ _ kind (eqb-true _ 0 e)).room)
-    (λ _ q. true_false (sym q)))
-    (λ _ q. true_false (sym q))
+    placed_cases (λ (t : Tried). t.answer ≡ Ok (Some at) → Permᴰ (at ∷ points_of t.next) (with_kept s at size (points_of s))) s _ size (best_of s size)
+    (λ k f q. let a : point_at s k ≡ at = cc in
+    rw (← a) (stock_perm s k size (reached_clean r) (scan_found _ s.points s.live k f) (ready _ _ kind (eqb-true _ 0 e)).room))
+    (λ _ q. absurd cc))
+    (λ _ q. absurd cc)
 
 -- with none passing the points and the boxes stay. They stay as they are, in every state and on a refusal too.
 pub points_stay : (s : ExtremePointSet) (kind : Kind) (instance o : ℕ) → stood (tried_of s kind instance o).answer ≡ false
     → (tried_of s kind instance o).next ≡ s
-unfolding tried_of placed_by
+unfolding tried_of
 points_stay s kind instance o =
     cond_cases (λ (t : Tried). stood t.answer ≡ false → t.next ≡ s) (eqb (refusal_of s.live s.held kind) 0)
-    (λ _. cond_cases (λ (t : Tried). stood t.answer ≡ false → t.next ≡ s) (best_of s (lengths_in kind o)).found (λ _ q. true_false q) (λ _ _. refl))
+    (λ _. placed_cases (λ (t : Tried). stood t.answer ≡ false → t.next ≡ s) s _ _ (best_of s (lengths_in kind o)) (λ _ _ q. true_false q) (λ _ _. refl))
     (λ _ _. refl)

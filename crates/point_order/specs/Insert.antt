@@ -3,11 +3,11 @@ use Rattle.std.specs.Prelude.{◌≡◌, refl, Bool, true, false, cond, List, []
 use Rattle.std.proofs.Math.Path.{sym, ap}
 use Rattle.std.proofs.Common.{◌∙◌, append_assoc, suc-le-suc, le_refl, not-suc-le-zero, le_of_suc-le-suc, add-zero, zero-add, add-one, arith, length-append}
 use Rattle.std.proofs.Common.{length-set, length-drop, take-append-drop, length-take-le, take-suc, take-take, take_at, get_or-take, drop_at, drop-drop}
-use Rattle.std.proofs.Math.ListN.{get_or-append}
 use Rattle.std.proofs.Math.Seq.{slice, slice_empty, slice-cons, append_snoc, length-slice}
-use Rattle.std.proofs.lemmas.List.{set_at}
+use Rattle.std.proofs.lemmas.List.{set_at, drop-take}
 use Rattle.std.specs.Float.Ieee.{lt}
-use Rattle.point_order.specs.Order.{insert, falling_of, lesser, lesser_le, sortable, Falls}
+use Rattle.std.specs.List.{copy_within}
+use Rattle.point_order.specs.Order.{insert, falling_of, sortable, Falls}
 
 -- a store of places, the first n of which are of m boxes
 pub record Places (p : List ℕ) (n m : ℕ) : Type 0 where
@@ -79,10 +79,6 @@ insert_at vol t (u ∷ l) = go (lt (vol u) (vol t)) (insert_at vol t l)
 
 -- ---- the moves
 
-pub moved_none : (p : List ℕ) (n : ℕ) → moved p n n ≡ p
-unfolding moved
-moved_none p n = rw (slice_empty n p) (take-append-drop (suc n) p)
-
 pub moved_long : (p : List ℕ) (j n : ℕ) → j ≤ n → n < length p → length (moved p j n) ≡ length p
 unfolding moved
 moved_long p j n h l =
@@ -90,21 +86,6 @@ moved_long p j n h l =
     let b = length-slice j n p (omega arith) in
     let d = length-drop (suc n) p in
     simp length-append (omega arith)
-
--- one place more is moved
-pub moved_more : (p : List ℕ) (j n : ℕ) → j < n → n < length p → set (moved p (suc j) n) (suc j) (get_or (moved p (suc j) n) j 0) ≡ moved p j n
-unfolding moved
-moved_more p j n h l =
-    let front = take (suc j) p in
-    let rest = slice (suc j) n p ++ drop (suc n) p in
-    let long = length-take-le (suc j) p (omega arith) in
-    let e : take (suc (suc j)) p ++ rest ≡ front ++ (get_or p (suc j) 0 ∷ rest) =
-    ap (λ (k : List ℕ). k ++ rest) (take-suc p (suc j) 0 (omega arith)) ∙ append_snoc front (get_or p (suc j) 0) rest in
-    let g : get_or (front ++ (get_or p (suc j) 0 ∷ rest)) j 0 ≡ get_or p j 0 =
-    get_or-append front (get_or p (suc j) 0 ∷ rest) 0 j (omega arith) ∙ get_or-take (suc j) p j 0 (omega arith) in
-    rw (e, g)
-    (set_at front (get_or p (suc j) 0) rest (get_or p j 0) (suc j) long
-    ∙ sym (ap (λ (k : List ℕ). front ++ (k ++ drop (suc n) p)) (slice-cons j n p 0 h (omega arith))))
 
 pub moved_opened : (p : List ℕ) (j n : ℕ) → j ≤ n → n < length p → set (moved p j n) j n ≡ opened p j n
 unfolding moved opened
@@ -114,13 +95,14 @@ moved_opened p j n h l =
     ap (λ (k : List ℕ). k ++ rest) (take-suc p j 0 (omega arith)) ∙ append_snoc (take j p) (get_or p j 0) rest in
     rw e (set_at (take j p) (get_or p j 0) rest n j (length-take-le j p (omega arith)))
 
--- the store as the loop has it: one place more is moved, and all are
-pub moves_on : (p q : List ℕ) (j n : ℕ) → q ≡ moved p j n → 0 < j → j ≤ n → n < length p → set q (j - 1 + 1) (get_or q (j - 1) 0) ≡ moved p (j - 1) n
-moves_on p q zero n e h k l = absurd (not-suc-le-zero h)
-moves_on p q (suc j) n e h k l = let d : suc j - 1 ≡ j = omega arith in rw (e, d, add-one j) (moved_more p j n (omega arith) l)
-
-pub moves_end : (p q : List ℕ) (j at n : ℕ) → q ≡ moved p j n → j ≡ at → at ≤ n → n < length p → set q at n ≡ opened p at n
-moves_end p q j at n e d h l = rw (e, d) (moved_opened p at n h l)
+-- the library's copy of the places from j up to n to one further on
+pub copied_moved : (p : List ℕ) (j n : ℕ) → j ≤ n → copy_within p j n (j + 1) ≡ moved p j n
+unfolding moved
+copied_moved p j n h =
+    let e : j + 1 + (n - j) ≡ suc n = omega arith in
+    let f : j + (n - j) ≡ n = omega arith in
+    let d : take (n - j) (drop j p) ≡ slice j n p = rw f at (sym (drop-take j (n - j) p)) in
+    rw (e, d, add-one j) (append_assoc (take (suc j) p) (slice j n p) (drop (suc n) p))
 
 -- the first n places, with n put in
 pub opened_first : (p : List ℕ) (j n : ℕ) → j ≤ n → n < length p → take (suc n) (opened p j n) ≡ take j (take n p) ++ (n ∷ drop j (take n p))
@@ -232,8 +214,6 @@ module _ (vol : ℕ → Float) (p : List ℕ) (n : ℕ) (long : n ≤ length p) 
 pub falls_long : (volumes : List Float) (n : ℕ) (old r : List ℕ) → Falls volumes n old r → length r ≡ length old
 falls_long volumes n old r s =
     let m = sortable n volumes old in
-    let h = (lesser_le n (lesser (length volumes) (length old))).right in
-    let k = (lesser_le (length volumes) (length old)).right in
     let a : length (take m r) ≡ m = rw s.first (falling_length _ m) in
     let b : length (drop m r) ≡ length old - m = rw s.rest (length-drop m old) in
     sym (ap length (take-append-drop m r)) ∙ (length-append (take m r) (drop m r) ∙ omega arith)

@@ -5,19 +5,9 @@
 
 ghost use Rattle.std.specs.Prelude.{◌≡◌, ◌≤◌, ◌<◌, length, get_or, take};
 ghost use Rattle.std.specs.Float.{nan};
-ghost use Rattle.point_order.specs.Order.{lesser, Falls};
+ghost use Rattle.point_order.specs.Order.{Falls};
 ghost use Rattle.point_order.specs.Insert.{Places, spot_of, opened};
 ghost use Rattle.point_order.specs.Begin.{NoneSmaller, begin_of};
-
-// The lesser of two numbers.
-fn lesser(a: usize, b: usize) -> usize
-    ensures { result ≡ lesser a b }
-{
-    if a < b {
-        return a;
-    }
-    b
-}
 
 // The first of the first n places whose box is of smaller volume than v, or n; before `from` there is none.
 fn spot(volumes: &[f64], places: &[usize], from: usize, n: usize, v: f64) -> usize
@@ -25,13 +15,11 @@ fn spot(volumes: &[f64], places: &[usize], from: usize, n: usize, v: f64) -> usi
         × NoneSmaller (λ t. get_or volumes.now t nan) v places.now from }
     ensures { result ≡ spot_of (λ t. get_or volumes.now t nan) v (take n places.now) }
 {
-    let mut i = from;
-    while i < n {
+    for i in from..n {
         let t = places[i];
         if volumes[t] < v {
             return i;
         }
-        i += 1;
     }
     n
 }
@@ -56,11 +44,7 @@ fn put_in(places: &mut [usize], at: usize, n: usize)
     requires { (at ≤ n) × (n < length places.old) }
     ensures { places.new ≡ opened places.old at n }
 {
-    let mut j = n;
-    while at < j {
-        j -= 1;
-        places[j + 1] = places[j];
-    }
+    places.copy_within(at..n, at + 1);
     places[at] = n;
 }
 
@@ -68,13 +52,11 @@ fn put_in(places: &mut [usize], at: usize, n: usize)
 pub fn falling(volumes: &[f64], n: usize, places: &mut [usize])
     ensures { Falls volumes.now n places.old places.new }
 {
-    let most = lesser(n, lesser(volumes.len(), places.len()));
+    let most = n.min(volumes.len().min(places.len()));
     let mut last = 0;
-    let mut t = 0;
-    while t < most {
+    for t in 0..most {
         let from = begin(volumes, t, last);
         last = spot(volumes, places, from, t, volumes[t]);
         put_in(places, last, t);
-        t += 1;
     }
 }

@@ -1,11 +1,13 @@
 -- Whether two placed boxes overlap, and the refusal of a box that is out of range. RULES: First placer: state · Ranges
-use Rattle.std.specs.Prelude.{Bool, false, not, cond, ◌&&◌, ◌||◌, List, Float}
+use Rattle.std.specs.Prelude.{Bool, not, ◌&&◌, ◌||◌, List, Float, Result}
 use Rattle.std.specs.Float.Ieee.{le}
 use Rattle.floats.specs.Ops.{x, y, z, ◌⊖◌}
+use Rattle.domain.specs.declared.Refusal.{Refusal}
+use Rattle.domain.specs.Refusals.{when}
+use Rattle.domain.specs.Refusal.{answer_of}
 use Rattle.domain.specs.Ranges.{slack, is_length, is_position}
 use Rattle.point_state.specs.declared.PlacedBox.{PlacedBox}
-use Rattle.point_state.specs.Triples.{sum3}
-use Rattle.point_overlap.specs.declared.Overlap.{Overlap}
+use Rattle.point_state.specs.Stores.{sum3}
 
 -- `max_corner`: position and lengths added axis by axis
 abbrev pub max_corner : PlacedBox → List Float
@@ -25,5 +27,5 @@ box_fault b =
     && (is_position (x b.position) && (is_position (y b.position) && is_position (z b.position))))
 
 -- `overlaps`: 3 for a box out of range, else whether they overlap
-abbrev pub overlap_of : PlacedBox → PlacedBox → Overlap
-overlap_of a b = cond (box_fault a || box_fault b) (record { refused = 3; holds = false }) (record { refused = 0; holds = overlapping a b })
+abbrev pub overlap_of : PlacedBox → PlacedBox → Result Bool Refusal
+overlap_of a b = answer_of (when (box_fault a || box_fault b) 3) (overlapping a b)

@@ -5,15 +5,8 @@
 ghost use Rattle.std.specs.Prelude.{◌≡◌};
 ghost use Rattle.point_overlap.specs.Overlap.{max_corner, box_fault, overlapping, overlap_of};
 
-use domain::SLACK;
+use domain::{Refusal, SLACK, refuse};
 use point_state::{PlacedBox, sum3};
-
-// The refusal of two boxes, 0 for none, and whether they overlap.
-#[derive(Clone, Copy)]
-pub struct Overlap {
-    pub refused: u32,
-    pub holds: bool,
-}
 
 // The far corner of a placed box.
 pub fn max_corner(b: PlacedBox) -> [f64; 3]
@@ -48,17 +41,9 @@ fn overlapping(a: PlacedBox, b: PlacedBox) -> bool
 
 // Whether two boxes overlap by more than the slack on every axis. A box whose lengths or position are out of range is refused
 // by 3.
-pub fn overlaps(a: PlacedBox, b: PlacedBox) -> Overlap
+pub fn overlaps(a: PlacedBox, b: PlacedBox) -> Result<bool, Refusal>
     ensures { result ≡ overlap_of a b }
 {
-    if box_fault(a) | box_fault(b) {
-        return Overlap {
-            refused: 3,
-            holds: false,
-        };
-    }
-    Overlap {
-        refused: 0,
-        holds: overlapping(a, b),
-    }
+    refuse(box_fault(a) | box_fault(b), Refusal::Measure)?;
+    Ok(overlapping(a, b))
 }

@@ -4,36 +4,29 @@
 
 ghost use Rattle.std.specs.Prelude.{◌≡◌, ◌+◌, ◌<◌};
 ghost use Rattle.domain.specs.Bounds.{most_boxes};
-ghost use Rattle.point_state.specs.Triples.{most_points};
+ghost use Rattle.domain.specs.Refusal.{answer_of};
+ghost use Rattle.point_state.specs.Stores.{most_points};
 ghost use Rattle.point_grow.specs.Grow.{after_box};
 ghost use Rattle.point_place.specs.Place.{refusal_of, tried_of, label_of};
 
+use domain::{Refusal, refuse};
 use measures::Kind;
 use point_state::{ExtremePointSet, Label};
 
-// What a place call answers. `NoRoom` is no refusal: no stored point takes the box.
-#[derive(Clone, Copy)]
-pub enum Answer {
-    Stands,
-    NoRoom,
-    Refused(u32),
-}
-
-// A place call's answer, the box's position where it stands, and the state after it.
+// A place call's answer, and the state after it. The answer is the position of the box where it stands; that no stored point takes
+// it is no refusal.
 #[derive(Clone, Copy)]
 pub struct Tried {
-    pub answer: Answer,
-    pub at: [f64; 3],
+    pub answer: Result<Option<[f64; 3]>, Refusal>,
     pub next: ExtremePointSet,
 }
 
-fn refusal_of(live: usize, held: usize, kind: Kind) -> u32
-    ensures { result ≡ refusal_of live held kind }
+fn refusal_of(live: usize, held: usize, kind: Kind) -> Result<(), Refusal>
+    ensures { result ≡ answer_of (refusal_of live held kind) tt }
 {
-    let state = domain::given(point_state::over_counts(live, held), 2);
-    let record = measures::kind_fault(kind, false);
-    let full = domain::given(held == domain::MOST_BOXES, 7);
-    domain::or_else(state, domain::or_else(record, full))
+    point_state::within(live, held)?;
+    measures::kind_fault(kind, false)?;
+    refuse(held == domain::MOST_BOXES, Refusal::Full)
 }
 
 fn label_of(kind: Kind, instance: u32) -> Label
@@ -42,8 +35,7 @@ fn label_of(kind: Kind, instance: u32) -> Label
     Label {
         id: kind.id,
         instance,
-        mass: kind.mass,
-        massed: kind.massed,
+        mass: point_state::mass_of(kind),
     }
 }
 
@@ -57,7 +49,7 @@ fn settle(set: ExtremePointSet, k: usize, label: Label, size: [f64; 3]) -> Extre
     let mut points = set.points;
     let mut boxes = set.boxes;
     let mut labels = set.labels;
-    let at = point_state::triple_at(&points, k);
+    let at = points[k];
     let live = point_grow::restock(&mut points, &boxes, container, set.live, held, k, size);
     point_grow::put_box(&mut boxes, held, at, size);
     labels[held] = label;
@@ -75,30 +67,23 @@ fn settle(set: ExtremePointSet, k: usize, label: Label, size: [f64; 3]) -> Extre
 pub fn try_place(set: ExtremePointSet, kind: Kind, instance: u32, orientation: u32) -> Tried
     ensures { result ≡ tried_of set kind instance orientation }
 {
-    let none = [0.0, 0.0, 0.0];
-    let refusal = refusal_of(set.live, set.held, kind);
-    if refusal != 0 {
+    if let Err(refusal) = refusal_of(set.live, set.held, kind) {
         return Tried {
-            answer: Answer::Refused(refusal),
-            at: none,
+            answer: Err(refusal),
             next: set,
         };
     }
     let size = measures::dimensions_for_orientation(kind, orientation);
-    let c = point_scan::best(set, size);
-    let k = c.index;
-    if !c.found {
+    let Some(k) = point_scan::best(set, size) else {
         return Tried {
-            answer: Answer::NoRoom,
-            at: none,
+            answer: Ok(None),
             next: set,
         };
-    }
-    let at = point_state::triple_at(&set.points, k);
+    };
+    let at = set.points[k];
     let q = settle(set, k, label_of(kind, instance), size);
     Tried {
-        answer: Answer::Stands,
-        at,
+        answer: Ok(Some(at)),
         next: q,
     }
 }

@@ -1,25 +1,18 @@
--- What the calls that only read a state answer: the refusal of a state whose counts are over the bounds, zeros beside it, and else what is read.
+-- What the calls that only read a state answer: the refusal of a state whose counts are over the bounds, and else what is read.
 -- RULES: First placer: state
-use Rattle.std.specs.Prelude.{Bool, true, false, cond, ℕ, ltb}
+use Rattle.std.specs.Prelude.{Bool, cond, ℕ, ltb, Option, Some, None, Result}
+use Rattle.domain.specs.declared.Refusal.{Refusal}
+use Rattle.domain.specs.Refusals.{when}
+use Rattle.domain.specs.Refusal.{answer_of}
 use Rattle.point_state.specs.declared.ExtremePointSet.{ExtremePointSet}
+use Rattle.point_state.specs.declared.PlacedBox.{PlacedBox}
 use Rattle.point_state.specs.Counts.{over}
-use Rattle.point_state.specs.Boxes.{no_box, box_at}
-use Rattle.point_reads.specs.declared.Count.{Count}
-use Rattle.point_reads.specs.declared.Flag.{Flag}
-use Rattle.point_reads.specs.declared.Found.{Found}
+use Rattle.point_state.specs.Boxes.{box_at}
 
--- `len`, `placed_count`
-abbrev pub counted : Bool → ℕ → Count
-counted refused n = cond refused (record { refused = 2; count = 0 }) (record { refused = 0; count = n })
+-- what is read of a state, or 2 where its counts are over the bounds
+abbrev pub told : {A : Type 0} → Bool → A → Result A Refusal
+told over v = answer_of (when over 2) v
 
--- `is_empty`
-abbrev pub flagged : Bool → Bool → Flag
-flagged refused b = cond refused (record { refused = 2; holds = false }) (record { refused = 0; holds = b })
-
--- `placed_box`: past the boxes placed none is found, which is no refusal
-abbrev pub none_found : ℕ → Found
-none_found refused = record { refused = refused; found = false; placed = no_box }
-
-unfoldable pub placed_at : ExtremePointSet → ℕ → Found
-placed_at s i =
-    cond (over s) (none_found 2) (cond (ltb i s.held) (record { refused = 0; found = true; placed = box_at s i }) (none_found 0))
+-- `placed_box`: past the boxes placed there is none, which is no refusal
+unfoldable pub placed_at : ExtremePointSet → ℕ → Result (Option PlacedBox) Refusal
+placed_at s i = told (over s) (cond (ltb i s.held) (Some (box_at s i)) None)

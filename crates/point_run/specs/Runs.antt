@@ -1,5 +1,5 @@
 -- The plan of a run. RULES: First placer: run · Plans
-use Rattle.std.specs.Prelude.{◌≡◌, false, cond, List, ℕ, ◌*◌, eqb, get_or, Float}
+use Rattle.std.specs.Prelude.{◌≡◌, false, cond, List, ℕ, eqb, get_or, min}
 use Rattle.floats.specs.Ops.{◌⊘◌}
 use Rattle.domain.specs.Bounds.{most_lines}
 use Rattle.measures.specs.declared.Kind.{Kind}
@@ -11,27 +11,26 @@ use Rattle.sheet.specs.declared.Line.{Line}
 use Rattle.sheet.specs.Sheets.{boxes_in, sheet_refusal}
 use Rattle.sheet.specs.Accepted.{Accepted}
 use Rattle.point_state.specs.declared.Label.{Label}
-use Rattle.point_state.specs.Triples.{three}
+use Rattle.point_state.specs.declared.Spot.{Spot}
+use Rattle.point_state.specs.Stores.{spot_in}
 use Rattle.point_state.specs.Boxes.{no_label, total_volume}
 use Rattle.point_state.specs.Counts.{over}
-use Rattle.point_state.specs.Fresh.{start_of, fresh_of}
+use Rattle.point_state.specs.Fresh.{start_of, fresh_state}
 use Rattle.point_stow.specs.Stow.{Stowed, stowed_by}
 use Rattle.point_stow.specs.Keeps.{stow_within}
-use Rattle.plan_sheet.specs.Boxes.{smaller}
-pub use Rattle.plan_sheet.specs.Boxes.{smaller_le}
 use Rattle.plan_sheet.specs.Plans.{Plan, blank_line, refused_plan, planned_of}
 use Rattle.lists.specs.Table.{table}
 use Rattle.point_run.specs.Order.{falling_boxes}
 
 -- the line of placed box i
-unfoldable pub line_by : List Label → List Float → List ℕ → ℕ → Line
+unfoldable pub line_by : List Label → List Spot → List ℕ → ℕ → Line
 line_by labels boxes orientations i =
     record {
       id = (get_or labels i no_label).id;
       instance = (get_or labels i no_label).instance;
       orientation = get_or orientations i 0;
       bin = 0;
-      at = three boxes (2 * i);
+      at = (spot_in boxes i).position;
     }
 
 abbrev pub line_of : Stowed → ℕ → Line
@@ -44,14 +43,14 @@ plan_from c kinds m f n =
 
 -- the first n of all the boxes by falling volume, placed one after the other in a fresh state
 unfoldable pub run_of : Container → List Kind → ℕ → ℕ → Stowed
-run_of c kinds all n = stowed_by (fresh_of c).set kinds (falling_boxes kinds all) n
+run_of c kinds all n = stowed_by (fresh_state c) kinds (falling_boxes kinds all) n
 
 -- the boxes by falling volume, as many as are to be considered, and no more than there are; the answer is that of the rule over just those boxes
 unfoldable pub ep_packing_of : Sheet → ℕ → Plan
 ep_packing_of order consider =
     let kinds = order.kinds in
     let all = boxes_in kinds order.many.kinds in
-    let n = smaller consider all in
+    let n = min consider all in
     cond (eqb (sheet_refusal order) 0) (plan_from order.container kinds order.many.kinds (run_of order.container kinds all n) n)
     (refused_plan (sheet_refusal order))
 

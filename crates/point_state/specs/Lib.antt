@@ -1,5 +1,4 @@
 -- The extreme-point placer's state: its stores, a fresh one, the bounds of its counts, the placed boxes and their totals.
-pub mod Triples
 pub mod All
 pub mod Stores
 pub mod Fresh

@@ -1,99 +1,97 @@
 -- Stores that are shorter than those of a state: padded to their length, a step over them is a step over those. RULES: First placer: run
-use Rattle.std.specs.Prelude.{◌≡◌, refl, Bool, cond, List, ◌++◌, ℕ, ◌+◌, ◌-◌, ◌*◌, ◌≤◌, ◌<◌, set, replicate, Float}
+use Rattle.std.specs.Prelude.{◌≡◌, refl, Bool, List, [], ◌++◌, ℕ, ◌+◌, ◌-◌, ◌≤◌, ◌<◌, get_or, set, replicate, Float, Option, Some, None}
 use Rattle.std.proofs.Common.{sym, ◌∙◌, ap, arith, length-set, length-append}
 use Rattle.std.proofs.Math.Bool.{true, false}
 use Rattle.std.proofs.Math.ListN.{length, get_or-append}
 use Rattle.std.proofs.lemmas.List.{length-replicate, replicate-append-replicate, set-append_left}
-use Rattle.std.specs.Float.{nan}
-use Rattle.floats.specs.Ops.{x, y, z, none}
-use Rattle.floats.specs.Weak.{true_false}
+use Rattle.floats.specs.Ops.{nowhere}
+use Rattle.domain.specs.Bounds.{most_boxes}
 use Rattle.lists.specs.Bools.{cond_cases}
 use Rattle.measures.specs.declared.Container.{Container}
 use Rattle.measures.specs.declared.Kind.{Kind}
 use Rattle.measures.specs.Asked.{asked_of}
 use Rattle.measures.specs.Orders.{share_of, lengths_in}
+use Rattle.point_state.specs.declared.Spot.{Spot}
 use Rattle.point_state.specs.All.{all_same}
-use Rattle.point_state.specs.Triples.{cells, three, put3, put3_length, sum3, triple_in, triple_in_lem}
+use Rattle.point_state.specs.Fresh.{blank_spot}
+use Rattle.point_state.specs.Stores.{most_points, point_in, no_spot, spot_in, sum3}
 use Rattle.point_fit.specs.declared.Room.{Room}
-use Rattle.point_fit.specs.Fit.{room_of, far_wall, near_wall}
-use Rattle.point_grow.specs.Grow.{free, valid, corners_of, count_with, points_with, count_with_lem, with_long, stock_by, put_box, box_in_lem, box_long}
-use Rattle.point_grow.specs.Grow.{restock_in}
-use Rattle.point_scan.specs.Passes.{apart_from, none_blocks, passes_by}
-use Rattle.point_scan.specs.Choose.{scan_found, scan_alike}
-use Rattle.point_scan.specs.Walls.{InStores, scan_of, scanned_in, put_walls, walls_in_lem}
+use Rattle.point_fit.specs.Fit.{room_of}
+use Rattle.point_grow.specs.Grow.{free, valid, corners_of, count_with, points_with, count_with_lem, with_long, stock_by, restock_in}
+use Rattle.point_scan.specs.declared.Walls.{Walls}
+use Rattle.point_scan.specs.Passes.{apart_from, none_blocks, passes_by, no_walls}
+use Rattle.point_scan.specs.Choose.{scan_alike}
+use Rattle.point_scan.specs.Walls.{InStores, scan_of, scanned_in, walls_by, blank_walls, put_walls, walls_in_lem}
 use Rattle.point_step.specs.declared.Pick.{Pick}
-use Rattle.point_step.specs.declared.Stood.{Stood}
-use Rattle.point_step.specs.Pick.{too_heavy, Spare, spare_in_lem, choice_in, pick_of, pick_same, pick_index}
-use Rattle.point_step.specs.Step.{Stores, stores, StepIs, pick_for, hints_for, stock_after, boxes_after, walls_after}
+use Rattle.point_step.specs.declared.Taken.{Taken}
+use Rattle.point_step.specs.Pick.{too_heavy, Spare, spare_in_lem, choice_in, pick_of, pick_same, pick_stored}
+use Rattle.point_step.specs.Step.{Stores, stores, StepIs, pick_for, hints_for, stock_after, boxes_after, walls_after, taken_of}
 
--- the store padded to the length of a state's
-unfoldable pub wide : List Float → List Float
-wide v = v ++ replicate (cells - length v) none
+-- a store padded to n rows
+unfoldable pub wide : {A : Type 0} → ℕ → A → List A → List A
+wide n d v = v ++ replicate (n - length v) d
 
--- ---- laws: as long as a state's store, with the same triples, stored alike
+-- each padded to the length of a state's
+abbrev pub wide_points : List (List Float) → List (List Float)
+wide_points v = wide most_points nowhere v
 
-pub wide_long : (v : List Float) → length v ≤ cells → length (wide v) ≡ cells
-unfolding wide
-wide_long v h = length-append v _ ∙ (ap (λ (n : ℕ). length v + n) (length-replicate (cells - length v) none) ∙ omega arith)
+abbrev pub wide_boxes : List Spot → List Spot
+wide_boxes v = wide most_boxes blank_spot v
 
-pub wide_blank : (n : ℕ) → n ≤ cells → wide (replicate n none) ≡ replicate cells none
-unfolding wide
-wide_blank n h =
-    let e : length (replicate n none) ≡ n = length-replicate n none in
-    let f : n + (cells - length (replicate n none)) ≡ cells = omega arith in
-    replicate-append-replicate n _ none ∙ ap (λ (k : ℕ). replicate k none) f
+abbrev pub wide_walls : List Walls → List Walls
+wide_walls v = wide most_boxes blank_walls v
 
-pub three_wide : (v : List Float) (k : ℕ) → 3 * k + 2 < length v → three (wide v) k ≡ three v k
-unfolding three wide
-three_wide v k h =
-    let pad = replicate (cells - length v) none in
-    rw (get_or-append v pad nan (3 * k) (omega arith), get_or-append v pad nan (3 * k + 1) (omega arith), get_or-append v pad nan (3 * k + 2) h)
+-- ---- laws: as long as a state's store, with the same rows, stored alike
 
-set_wide : (v : List Float) (i : ℕ) (a : Float) → i < length v → set (wide v) i a ≡ wide (set v i a)
-unfolding wide
-set_wide v i a h = set-append_left v _ i a h ∙ rw (length-set v i a)
+module _ {A : Type 0} (n : ℕ) (d : A) where
+  pub wide_long : (v : List A) → length v ≤ n → length (wide n d v) ≡ n
+  unfolding wide
+  wide_long v h = length-append v _ ∙ (ap (λ (k : ℕ). length v + k) (length-replicate (n - length v) d) ∙ omega arith)
 
-pub put3_wide : (v : List Float) (k : ℕ) (t : List Float) → 3 * k + 2 < length v → put3 (wide v) k t ≡ wide (put3 v k t)
-unfolding put3
-put3_wide v k t h =
-    let a = set v (3 * k) (x t) in
-    let b = set a (3 * k + 1) (y t) in
-    let la : length a ≡ length v = length-set v (3 * k) (x t) in
-    let lb : length b ≡ length v = length-set a (3 * k + 1) (y t) ∙ la in
-    rw (set_wide v (3 * k) (x t) (omega arith), set_wide a (3 * k + 1) (y t) (omega arith), set_wide b (3 * k + 2) (z t) (omega arith))
+  pub wide_blank : (k : ℕ) → k ≤ n → wide n d (replicate k d) ≡ replicate n d
+  unfolding wide
+  wide_blank k h =
+      let e : length (replicate k d) ≡ k = length-replicate k d in
+      let f : k + (n - length (replicate k d)) ≡ n = omega arith in
+      replicate-append-replicate k _ d ∙ ap (λ (m : ℕ). replicate m d) f
 
-pub triple_wide : (v : List Float) (k : ℕ) → length v ≤ cells → 3 * k + 2 < length v → triple_in (wide v) k ≡ triple_in v k
-triple_wide v k few h =
-    let long = wide_long v few in
-    triple_in_lem (wide v) k (omega arith) ∙ (three_wide v k h ∙ sym (triple_in_lem v k h))
+  pub wide_at : (v : List A) (i : ℕ) (o : A) → i < length v → get_or (wide n d v) i o ≡ get_or v i o
+  unfolding wide
+  wide_at v i o h = get_or-append v (replicate (n - length v) d) o i h
 
-either_wide : (b : Bool) (u v t : List Float) → t ≡ wide u → cond b t (wide v) ≡ wide (cond b u v)
-either_wide true u v t e = e
-either_wide false u v t e = refl
+  pub set_wide : (v : List A) (i : ℕ) (a : A) → i < length v → set (wide n d v) i a ≡ wide n d (set v i a)
+  unfolding wide
+  set_wide v i a h = set-append_left v _ i a h ∙ rw (length-set v i a)
+
+-- the rows of a state's stores
+pub point_wide : (points : List (List Float)) (i : ℕ) → i < length points → point_in (wide_points points) i ≡ point_in points i
+point_wide points i h = wide_at most_points nowhere points i [] h
+
+pub spot_wide : (boxes : List Spot) (i : ℕ) → i < length boxes → spot_in (wide_boxes boxes) i ≡ spot_in boxes i
+spot_wide boxes i h = wide_at most_boxes blank_spot boxes i no_spot h
 
 -- ---- the points and boxes after a box
 
-free_wide : (boxes : List Float) (n : ℕ) (at : List Float) → 6 * n ≤ length boxes → free (wide boxes) n at ≡ free boxes n at
+free_wide : (boxes : List Spot) (n : ℕ) (at : List Float) → n ≤ length boxes → free (wide_boxes boxes) n at ≡ free boxes n at
 unfolding free
-free_wide boxes n at h =
-    all_same _ _ n (λ i l. rw (three_wide boxes (2 * i) (omega arith), three_wide boxes (2 * i + 1) (omega arith)))
+free_wide boxes n at h = all_same _ _ n (λ i l. rw (spot_wide boxes i (omega arith)))
 
-corners_wide : (c : Container) (boxes : List Float) (held : ℕ) (at size : List Float) → 6 * held ≤ length boxes
-    → corners_of c (wide boxes) held at size ≡ corners_of c boxes held at size
+corners_wide : (c : Container) (boxes : List Spot) (held : ℕ) (at size : List Float) → held ≤ length boxes
+    → corners_of c (wide_boxes boxes) held at size ≡ corners_of c boxes held at size
 unfolding corners_of valid
 corners_wide c boxes held at size h =
     rw (free_wide boxes held _ h, free_wide boxes held _ h, free_wide boxes held _ h)
 
-with_wide : (kept : Bool) (points : List Float) (n : ℕ) (at : List Float) → 3 * n + 2 < length points
-    → points_with kept (wide points) n at ≡ wide (points_with kept points n at)
+with_wide : (kept : Bool) (points : List (List Float)) (n : ℕ) (at : List Float) → n < length points
+    → points_with kept (wide_points points) n at ≡ wide_points (points_with kept points n at)
 unfolding points_with
-with_wide true points n at h = put3_wide points n at h
+with_wide true points n at h = set_wide most_points nowhere points n at h
 with_wide false points n at h = refl
 
 -- three points more at most
-three_more : (a b d : Bool) (p q r points : List Float) (n : ℕ) → 3 * (n + 2) + 2 < length points
-    → points_with d (points_with b (points_with a (wide points) n p) (count_with a n) q) (count_with b (count_with a n)) r
-    ≡ wide (points_with d (points_with b (points_with a points n p) (count_with a n) q) (count_with b (count_with a n)) r)
+three_more : (a b d : Bool) (p q r : List Float) (points : List (List Float)) (n : ℕ) → n + 2 < length points
+    → points_with d (points_with b (points_with a (wide_points points) n p) (count_with a n) q) (count_with b (count_with a n)) r
+    ≡ wide_points (points_with d (points_with b (points_with a points n p) (count_with a n) q) (count_with b (count_with a n)) r)
 three_more a b d p q r points n h =
     let one = points_with a points n p in
     let two = points_with b one (count_with a n) q in
@@ -106,58 +104,52 @@ three_more a b d p q r points n h =
     let g = with_wide d two (count_with b (count_with a n)) r (let k = i.high in let m = j.high in omega arith) in
     rw (e, f, g)
 
-stock_wide : (c : Container) (boxes : List Float) (held live : ℕ) (points : List Float) (k : ℕ) (size : List Float) → k < live
-    → 3 * (live + 1) + 2 < length points → 6 * held ≤ length boxes
-    → stock_by c (wide boxes) held live (wide points) k size
-    ≡ record { live = (stock_by c boxes held live points k size).live; points = wide (stock_by c boxes held live points k size).points }
+stock_wide : (c : Container) (boxes : List Spot) (held live : ℕ) (points : List (List Float)) (k : ℕ) (size : List Float) → k < live
+    → live + 1 < length points → held ≤ length boxes
+    → stock_by c (wide_boxes boxes) held live (wide_points points) k size
+    ≡ record { live = (stock_by c boxes held live points k size).live; points = wide_points (stock_by c boxes held live points k size).points }
 unfolding stock_by
 stock_wide c boxes held live points k size l h b =
-    let tail = three points (live - 1) in
-    let long : length (put3 points k tail) ≡ length points = put3_length points k tail in
-    let new = corners_of c boxes held (three points k) size in
+    let tail = point_in points (live - 1) in
+    let long : length (set points k tail) ≡ length points = length-set points k tail in
+    let new = corners_of c boxes held (point_in points k) size in
     rw (
-      three_wide points k (omega arith),
-      three_wide points (live - 1) (omega arith),
-      put3_wide points k tail (omega arith),
-      corners_wide c boxes held (three points k) size b,
-      three_more new.alongx new.alongy new.alongz _ _ _ (put3 points k tail) (live - 1) (omega arith),
+      point_wide points k (omega arith),
+      point_wide points (live - 1) (omega arith),
+      set_wide most_points nowhere points k tail (omega arith),
+      corners_wide c boxes held (point_in points k) size b,
+      three_more new.alongx new.alongy new.alongz _ _ _ (set points k tail) (live - 1) (omega arith),
     )
 
-put_walls_wide : (walls boxes : List Float) (i : ℕ) (s : Float) → 3 * (2 * i + 1) + 2 < length walls → 3 * (2 * i + 1) + 2 < length boxes
-    → put_walls (wide walls) (wide boxes) i s ≡ wide (put_walls walls boxes i s)
-unfolding put_walls
-put_walls_wide walls boxes i s h b =
-    let far = far_wall (three boxes (2 * i)) (three boxes (2 * i + 1)) s in
-    let near = near_wall (three boxes (2 * i)) s in
-    let once : length (put3 walls (2 * i) far) ≡ length walls = put3_length walls (2 * i) far in
-    rw (three_wide boxes (2 * i) (omega arith), three_wide boxes (2 * i + 1) b, put3_wide walls (2 * i) far (omega arith))
-    (put3_wide (put3 walls (2 * i) far) (2 * i + 1) near (omega arith))
+put_walls_wide : (walls : List Walls) (boxes : List Spot) (i : ℕ) (s : Float) → i < length walls → i < length boxes
+    → put_walls (wide_walls walls) (wide_boxes boxes) i s ≡ wide_walls (put_walls walls boxes i s)
+put_walls_wide walls boxes i s h b = rw (spot_wide boxes i b) (set_wide most_boxes blank_walls walls i (walls_by (spot_in boxes i) s) h)
 
 -- ---- the pick
 
-passes_wide : (room : Room) (walls : List Float) (held : ℕ) (at size : List Float) → 6 * held ≤ length walls
-    → passes_by room (wide walls) held at size ≡ passes_by room walls held at size
+passes_wide : (room : Room) (walls : List Walls) (held : ℕ) (at size : List Float) → held ≤ length walls
+    → passes_by room (wide_walls walls) held at size ≡ passes_by room walls held at size
 unfolding none_blocks
 passes_wide room walls held at size h =
-    rw (all_same (apart_from (wide walls) at (sum3 at size)) (apart_from walls at (sum3 at size)) held
-    (λ i l. rw (three_wide walls (2 * i) (omega arith), three_wide walls (2 * i + 1) (omega arith))))
+    rw (all_same (apart_from (wide_walls walls) at (sum3 at size)) (apart_from walls at (sum3 at size)) held
+    (λ i l. rw (wide_at most_boxes blank_walls walls i no_walls (omega arith))))
 
-scan_wide : (room : Room) (walls : List Float) (held : ℕ) (size points : List Float) (live : ℕ) → 3 * live ≤ length points → 6 * held ≤ length walls
-    → scan_of room (wide walls) held size (wide points) live ≡ scan_of room walls held size points live
+scan_wide : (room : Room) (walls : List Walls) (held : ℕ) (size : List Float) (points : List (List Float)) (live : ℕ) → live ≤ length points
+    → held ≤ length walls → scan_of room (wide_walls walls) held size (wide_points points) live ≡ scan_of room walls held size points live
 unfolding scan_of
 scan_wide room walls held size points live p h =
-    scan_alike _ _ (wide points) points live
-    (λ i l. rw (three_wide points i (omega arith)) (passes_wide room walls held (three points i) size h)) (λ i l. three_wide points i (omega arith))
+    scan_alike _ _ (wide_points points) points live
+    (λ i l. rw (point_wide points i (omega arith)) (passes_wide room walls held (point_in points i) size h)) (λ i l. point_wide points i (omega arith))
 
 -- the stores padded, with other hints
 abbrev pub wide_in : Stores → List ℕ → Stores
-wide_in s hints = stores (wide s.points) (wide s.boxes) (wide s.walls) hints
+wide_in s hints = stores (wide_points s.points) (wide_boxes s.boxes) (wide_walls s.walls) hints
 
 -- stores that are no longer than a state's, with room for one box more, and a hint for each point
 pub record Short (live held : ℕ) (s : Stores) : Type 0 where
-  pub points_few : length s.points ≤ cells
-  pub boxes_few : length s.boxes ≤ cells
-  pub walls_few : length s.walls ≤ cells
+  pub points_few : length s.points ≤ most_points
+  pub boxes_few : length s.boxes ≤ most_boxes
+  pub walls_few : length s.walls ≤ most_boxes
   pub room : Spare (length s.points) (length s.boxes) (length s.walls) live held
   pub hinted : live ≤ length s.hints
 
@@ -165,14 +157,14 @@ module _ (c : Container) (live held : ℕ) (mass : Float) (kind : Kind) (s : Sto
   abbrev w : Stores
   w = wide_in s hints
 
-  points_long : length w.points ≡ cells
-  points_long = wide_long s.points h.points_few
+  points_long : length w.points ≡ most_points
+  points_long = wide_long most_points nowhere s.points h.points_few
 
-  boxes_long : length w.boxes ≡ cells
-  boxes_long = wide_long s.boxes h.boxes_few
+  boxes_long : length w.boxes ≡ most_boxes
+  boxes_long = wide_long most_boxes blank_spot s.boxes h.boxes_few
 
-  walls_long : length w.walls ≡ cells
-  walls_long = wide_long s.walls h.walls_few
+  walls_long : length w.walls ≡ most_boxes
+  walls_long = wide_long most_boxes blank_walls s.walls h.walls_few
 
   room_wide : Spare (length w.points) (length w.boxes) (length w.walls) live held
   room_wide =
@@ -208,86 +200,71 @@ module _ (c : Container) (live held : ℕ) (mass : Float) (kind : Kind) (s : Sto
   pick_wide =
       rw (spare_in_lem _ _ _ live held room_wide, spare_in_lem _ _ _ live held h.room, pick_same _ _ (length (share_of kind.rule)) choice_wide)
 
-  choice_in_lem : (o : ℕ) → (choice_in (room_of c) s.walls held s.points live kind (length s.hints) o).found ≡ true
-      → (choice_in (room_of c) s.walls held s.points live kind (length s.hints) o).index < live
-  unfolding scan_of
-  choice_in_lem o =
-      rw (scanned_in (room_of c) s.walls held (lengths_in kind o) s.points live (length s.hints) (stores_in s h.room h.hinted))
-      (scan_found _ s.points live)
-
   -- a point that was found is a stored one
-  pub pick_in : (pick_for c live held mass kind s).found ≡ true → (pick_for c live held mass kind s).index < live
-  unfolding pick_for pick_of
-  pick_in =
+  pub pick_in : (p : Pick) → pick_for c live held mass kind s ≡ Some p → p.index < live
+  unfolding pick_for
+  pick_in p =
       rw (spare_in_lem _ _ _ live held h.room)
-      (cond_cases (λ (p : Pick). p.found ≡ true → p.index < live) (too_heavy c.limit mass kind) (λ _ e. true_false (sym e))
-      (λ _. pick_index _ live (length (share_of kind.rule)) choice_in_lem))
+      (cond_cases (λ (q : Option Pick). q ≡ Some p → p.index < live) (too_heavy c.limit mass kind) (λ _ e. absurd cc)
+      (λ _. pick_stored (room_of c) s.walls held s.points live kind (length s.hints) (length (share_of kind.rule)) p))
 
   -- ---- the stores after it
 
-  module _ (p : Pick) (known : p.found ≡ true → p.index < live) where
-    stocks : (b : Bool) → p.found ≡ b
-        → stock_after c live held kind p w
-        ≡ record { live = (stock_after c live held kind p s).live; points = wide (stock_after c live held kind p s).points }
-    unfolding stock_after
-    stocks true e =
-        let i = known e in
-        let r = h.room in
-        let v = room_wide in
-        let size = lengths_in kind p.orientation in
-        let a = restock_in c w.boxes held live w.points p.index size i v.points_in v.boxes_in in
-        let b = restock_in c s.boxes held live s.points p.index size i r.points_in r.boxes_in in
-        rw (e, a, b) (stock_wide c s.boxes held live s.points p.index size i r.points_in (let k = r.boxes_in in omega (arith, k)))
-    stocks false e = rw e
+  -- where there is a pick, it is of a stored point
+  abbrev Stored : Option Pick → Type 0
+  Stored q = (p : Pick) → q ≡ Some p → p.index < live
 
-    boxes_then : (b : Bool) → p.found ≡ b → boxes_after c live held kind p w ≡ wide (boxes_after c live held kind p s)
-    unfolding boxes_after put_box
-    boxes_then true e =
-        let i = known e in
-        let r = h.room in
-        let k = r.boxes_in in
-        let m = r.points_in in
-        let size = lengths_in kind p.orientation in
-        let at = triple_wide s.points p.index h.points_few (omega (arith, i, m)) in
-        let t = triple_in s.points p.index in
-        let long : length (put3 s.boxes (2 * held) t) ≡ length s.boxes = put3_length s.boxes (2 * held) t in
-        rw (e, at, box_in_lem w.boxes held t size room_wide.boxes_in, box_in_lem s.boxes held t size k)
-        (rw (put3_wide s.boxes (2 * held) t (omega (arith, k)))
-        (put3_wide (put3 s.boxes (2 * held) t) (2 * held + 1) size (omega (arith, k, long))))
-    boxes_then false e = rw e
+  stocks : (q : Option Pick) → Stored q
+      → stock_after c live held kind w q
+      ≡ record { live = (stock_after c live held kind s q).live; points = wide_points (stock_after c live held kind s q).points }
+  unfolding stock_after
+  stocks (Some p) known =
+      let i = known p refl in
+      let r = h.room in
+      let v = room_wide in
+      let size = lengths_in kind p.orientation in
+      let a = restock_in c w.boxes held live w.points p.index size i v.points_in v.boxes_in in
+      let b = restock_in c s.boxes held live s.points p.index size i r.points_in r.boxes_in in
+      rw (a, b) (stock_wide c s.boxes held live s.points p.index size i r.points_in (let k = r.boxes_in in omega (arith, k)))
+  stocks None known = refl
 
-    boxes_kept : (b : Bool) → p.found ≡ b → length (boxes_after c live held kind p s) ≡ length s.boxes
-    unfolding boxes_after
-    boxes_kept true e =
-        rw (e, box_in_lem s.boxes held (triple_in s.points p.index) (lengths_in kind p.orientation) h.room.boxes_in) (box_long _ held _ _)
-    boxes_kept false e = rw e
+  told : (q : Option Pick) → Stored q → taken_of c live held kind w q ≡ taken_of c live held kind s q
+  unfolding taken_of
+  told (Some p) known = rw (stocks (Some p) known)
+  told None known = refl
 
-    walls_then : (b : Bool) → p.found ≡ b → walls_after c live held kind p w ≡ wide (walls_after c live held kind p s)
-    unfolding walls_after
-    walls_then true e =
-        let k = h.room.walls_in_lem in
-        let m = h.room.boxes_in in
-        let boxes = boxes_after c live held kind p s in
-        let same : length boxes ≡ length s.boxes = boxes_kept true e in
-        let long : length (wide boxes) ≡ cells = wide_long boxes (let q = h.boxes_few in omega (arith, q, same)) in
-        let bw : 3 * (2 * held + 1) + 2 < length (wide boxes) = let q = h.boxes_few in omega (arith, q, m, long) in
-        let bs : 3 * (2 * held + 1) + 2 < length boxes = omega (arith, m, same) in
-        rw (boxes_then true e, walls_in_lem w.walls (wide boxes) held (asked_of c) room_wide.walls_in_lem bw, walls_in_lem s.walls boxes held (asked_of c) k bs)
-        (either_wide p.found _ s.walls _ (put_walls_wide s.walls boxes held (asked_of c) k bs))
-    walls_then false e = rw e
+  boxes_then : (q : Option Pick) → Stored q → boxes_after c live held kind w q ≡ wide_boxes (boxes_after c live held kind s q)
+  unfolding boxes_after
+  boxes_then (Some p) known =
+      let i = known p refl in
+      let r = h.room in
+      let m = r.points_in in
+      rw (point_wide s.points p.index (omega (arith, i, m))) (set_wide most_boxes blank_spot s.boxes held _ r.boxes_in)
+  boxes_then None known = refl
+
+  walls_then : (q : Option Pick) → Stored q → walls_after c live held kind w q ≡ wide_walls (walls_after c live held kind s q)
+  unfolding walls_after boxes_after
+  walls_then (Some p) known =
+      let boxes = boxes_after c live held kind s (Some p) in
+      let same : length boxes ≡ length s.boxes = length-set s.boxes held _ in
+      let few = h.boxes_few in
+      let m = h.room.boxes_in in
+      let long : length (wide_boxes boxes) ≡ most_boxes = wide_long most_boxes blank_spot boxes (omega (arith, few, same)) in
+      let bw : held < length (wide_boxes boxes) = omega (arith, few, m, long) in
+      let bs : held < length boxes = omega (arith, m, same) in
+      rw (boxes_then (Some p) known, walls_in_lem w.walls (wide_boxes boxes) held (asked_of c) bw, walls_in_lem s.walls boxes held (asked_of c) bs)
+      (put_walls_wide s.walls boxes held (asked_of c) h.room.walls_in_lem bs)
+  walls_then None known = refl
 
   -- a step over the stores is one over the padded ones
-  pub step_wide : (r : Stood) (t : Stores) → StepIs c live held mass kind s r t
+  pub step_wide : (r : Option Taken) (t : Stores) → StepIs c live held mass kind s r t
       → StepIs c live held mass kind w r (wide_in t (hints_for c live held mass kind w))
   step_wide r t i =
-      let p = pick_for c live held mass kind s in
-      let e = stocks p pick_in p.found refl in
+      let q = pick_for c live held mass kind s in
       record {
-        found_is = rw pick_wide i.found_is;
-        orientation_is = rw pick_wide i.orientation_is;
-        live_is = rw (pick_wide, e) i.live_is;
-        points_are = rw (pick_wide, e) (ap wide i.points_are);
-        boxes_are = rw (pick_wide, boxes_then p pick_in p.found refl) (ap wide i.boxes_are);
-        walls_are = rw (pick_wide, walls_then p pick_in p.found refl) (ap wide i.walls_are);
+        taken_is = rw (pick_wide, told q pick_in) i.taken_is;
+        points_are = rw (pick_wide, stocks q pick_in) (ap wide_points i.points_are);
+        boxes_are = rw (pick_wide, boxes_then q pick_in) (ap wide_boxes i.boxes_are);
+        walls_are = rw (pick_wide, walls_then q pick_in) (ap wide_walls i.walls_are);
         hints_are = refl;
       }

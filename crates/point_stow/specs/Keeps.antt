@@ -17,7 +17,7 @@ use Rattle.point_state.specs.Counts.{over, Within, not_over}
 use Rattle.point_grow.specs.Grow.{after_box, stock_few}
 use Rattle.point_scan.specs.Choose.{best_of, scan_found}
 use Rattle.point_place.specs.declared.Tried.{Tried}
-use Rattle.point_place.specs.Place.{stood, refusal_of, placed_by, tried_of, ready}
+use Rattle.point_place.specs.Place.{stood, refusal_of, label_of, placed_cases, tried_of, ready}
 use Rattle.point_step.specs.Pick.{too_heavy}
 use Rattle.point_stow.specs.Stow.{Stowed, Attempt, attempt_of, turn_of, stowed_by}
 
@@ -54,16 +54,15 @@ abbrev Fits : ExtremePointSet → Type 0
 Fits s = Within s.live s.held
 
 tried_fits : (s : ExtremePointSet) (kind : Kind) (instance o : ℕ) → Fits s → Fits (tried_of s kind instance o).next
-unfolding tried_of placed_by best_of after_box
+unfolding tried_of best_of after_box
 tried_fits s kind instance o h =
     let size = lengths_in kind o in
-    let c = best_of s size in
     cond_cases (λ (t : Tried). Fits t.next) (eqb (refusal_of s.live s.held kind) 0)
     (λ e.
-    cond_cases (λ (t : Tried). Fits t.next) c.found
-    (λ f.
+    placed_cases (λ (t : Tried). Fits t.next) s (label_of kind instance) size (best_of s size)
+    (λ k f.
     let r = ready _ _ kind (eqb-true _ 0 e) in
-    let m = stock_few s c.index size (scan_found _ s.points s.live f) in
+    let m = stock_few s k size (scan_found _ s.points s.live k f) in
     record { room = omega arith; few = omega arith })
     (λ _. h))
     (λ _. h)

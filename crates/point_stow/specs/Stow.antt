@@ -1,7 +1,6 @@
 -- Boxes placed in a given order, as a run does once it has sorted them. RULES: First placer: run
-use Rattle.std.specs.Prelude.{◌≡◌, Bool, false, cond, List, ℕ, zero, suc, ◌<◌, length, get_or, set, replicate}
+use Rattle.std.specs.Prelude.{◌≡◌, Bool, false, cond, List, ℕ, zero, suc, ◌<◌, length, get_or, set, replicate, None, Ok}
 use Rattle.std.proofs.Common.{arith}
-use Rattle.floats.specs.Ops.{nowhere}
 use Rattle.domain.specs.Bounds.{most_kinds, most_boxes}
 use Rattle.domain.specs.Refusals.{or_else}
 use Rattle.measures.specs.declared.Kind.{Kind}
@@ -15,7 +14,6 @@ use Rattle.plan_boxes.specs.Listing.{no_instance}
 use Rattle.point_state.specs.declared.ExtremePointSet.{ExtremePointSet}
 use Rattle.point_state.specs.Boxes.{total_mass}
 use Rattle.point_place.specs.declared.Tried.{Tried}
-use Rattle.point_place.specs.declared.Answer.TheVariants.{NoRoom}
 use Rattle.point_place.specs.Place.{tried_of, stood}
 use Rattle.point_step.specs.Pick.{too_heavy}
 
@@ -30,7 +28,7 @@ pub record Attempt : Type 0 where
   pub tried : Tried
 
 unfoldable pub attempt_of : ExtremePointSet → Kind → ℕ → ℕ → Attempt
-attempt_of s kind instance zero = record { orientation = 0; tried = record { answer = NoRoom; at = nowhere; next = s } }
+attempt_of s kind instance zero = record { orientation = 0; tried = record { answer = Ok None; next = s } }
 attempt_of s kind instance (suc o) =
     let a = attempt_of s kind instance o in
     cond (stood a.tried.answer) a (record { orientation = o; tried = tried_of s kind instance o })

@@ -1,7 +1,8 @@
--- `total_volume`, `total_mass`: the refusal of a state whose counts are over the bounds, zero beside it, and else the total. RULES: Volume and mass
-use Rattle.std.specs.Prelude.{Bool, cond, Float}
-use Rattle.floats.specs.Ops.{none}
-use Rattle.point_totals.specs.declared.Amount.{Amount}
+-- `total_volume`, `total_mass`: the refusal of a state whose counts are over the bounds, and else the total. RULES: Volume and mass
+use Rattle.std.specs.Prelude.{Bool, Float, Result}
+use Rattle.domain.specs.declared.Refusal.{Refusal}
+use Rattle.domain.specs.Refusals.{when}
+use Rattle.domain.specs.Refusal.{answer_of}
 
-abbrev pub amounted : Bool → Float → Amount
-amounted refused v = cond refused (record { refused = 2; amount = none }) (record { refused = 0; amount = v })
+abbrev pub amounted : Bool → Float → Result Float Refusal
+amounted over v = answer_of (when over 2) v

@@ -3,76 +3,48 @@
 
 #![tactic(auto)]
 
-ghost use Rattle.std.specs.Prelude.{◌≡◌, ◌≤◌};
-ghost use Rattle.domain.specs.Bounds.{most_boxes};
+ghost use Rattle.std.specs.Prelude.{◌≡◌, ◌≤◌, length};
 ghost use Rattle.point_state.specs.Boxes.{volume_below, mass_below, total_volume, total_mass};
 ghost use Rattle.point_state.specs.Counts.{over};
 ghost use Rattle.point_totals.specs.Totals.{amounted};
 
-use point_state::{CELLS, ExtremePointSet, Label, mass_with, over_counts, triple_at};
+use domain::Refusal;
+use point_state::{ExtremePointSet, Label, Spot, mass_with, within};
 
-#[derive(Clone, Copy)]
-pub struct Amount {
-    pub refused: u32,
-    pub amount: f64,
-}
-
-fn volume_below(boxes: &[f64; CELLS], n: usize) -> f64
-    requires { n ≤ most_boxes }
+fn volume_below(boxes: &[Spot], n: usize) -> f64
+    requires { n ≤ length boxes.now }
     ensures { result ≡ volume_below boxes.now n }
 {
     let mut sum = 0.0;
-    let mut i = 0;
-    while i < n {
-        sum = sum + measures::measure(triple_at(boxes, 2 * i + 1));
-        i += 1;
+    for spot in &boxes[..n] {
+        sum = sum + measures::measure(spot.dimensions);
     }
     sum
 }
 
-fn mass_below(labels: [Label; domain::MOST_BOXES], n: usize) -> f64
-    requires { n ≤ most_boxes }
-    ensures { result ≡ mass_below labels n }
+fn mass_below(labels: &[Label], n: usize) -> f64
+    requires { n ≤ length labels.now }
+    ensures { result ≡ mass_below labels.now n }
 {
     let mut sum = 0.0;
-    let mut i = 0;
-    while i < n {
-        let label = labels[i];
-        sum = mass_with(sum, label.massed, label.mass);
-        i += 1;
+    for label in &labels[..n] {
+        sum = mass_with(sum, label.mass);
     }
     sum
-}
-
-fn amounted(over: bool, amount: f64) -> Amount
-    ensures { result ≡ amounted over amount }
-{
-    if over {
-        return Amount {
-            refused: 2,
-            amount: 0.0,
-        };
-    }
-    Amount { refused: 0, amount }
 }
 
 // The volume of the placed boxes.
-pub fn total_volume(set: ExtremePointSet) -> Amount
+pub fn total_volume(set: ExtremePointSet) -> Result<f64, Refusal>
     ensures { result ≡ amounted (over set) (total_volume set) }
 {
-    if over_counts(set.live, set.held) {
-        return amounted(true, 0.0);
-    }
-    amounted(false, volume_below(&set.boxes, set.held))
+    within(set.live, set.held)?;
+    Ok(volume_below(&set.boxes, set.held))
 }
 
 // The mass of the placed boxes that have one.
-pub fn total_mass(set: ExtremePointSet) -> Amount
+pub fn total_mass(set: ExtremePointSet) -> Result<f64, Refusal>
     ensures { result ≡ amounted (over set) (total_mass set) }
 {
-    if over_counts(set.live, set.held) {
-        return amounted(true, 0.0);
-    }
-    let labels = set.labels;
-    amounted(false, mass_below(labels, set.held))
+    within(set.live, set.held)?;
+    Ok(mass_below(&set.labels, set.held))
 }

@@ -2,8 +2,10 @@
 
 #![tactic(auto)]
 
-use check_packing::Checked;
-use sheet::Sheet;
+ghost use Rattle.std.specs.Prelude.{◌*◌, ◌≤◌};
+
+use domain::Refusal;
+use replay_vectors::{Reader, Tag};
 
 // Words lent: 1,700 slots of five, enough for every sheet of the sample but the crowds.
 const WORDS: usize = 8500;
@@ -14,127 +16,87 @@ const MOST_FOUND: usize = domain::MOST_LINES * domain::MOST_LINES;
 // What stands in lent words that no call is to change.
 const UNTOUCHED: u64 = 11936128518282651045;
 
-// Whether no word from `from` on was changed.
-fn untouched(words: &[u64; WORDS], from: usize) -> bool {
-    let mut same = true;
-    let mut i = from;
-    while i < WORDS {
-        same = same & (words[i] == UNTOUCHED);
-        i += 1;
-    }
-    same
-}
-
-fn word_at(words: &[u64; WORDS], i: usize) -> u64 {
-    if i < WORDS {
-        return words[i];
-    }
-    0
-}
-
-// Whether the first n words are those that stand at `from`.
-fn same_words(b: &[u8], from: usize, words: &[u64; WORDS], n: usize) -> bool {
-    let mut same = true;
-    let mut at = from;
-    let mut i = 0;
-    while i < n {
-        same = same & (replay_vectors::u64_at(b, at) == word_at(words, i));
-        at = replay_vectors::past(at, 8);
-        i += 1;
-    }
-    same
-}
-
 // The words of so many findings.
-fn words_of(found: usize) -> usize {
+fn words_of(found: usize) -> usize
+    ensures { result ≤ 5 * MOST_FOUND }
+{
     if found > MOST_FOUND {
         return 0;
     }
     found * 5
 }
 
-// Checks the load file with room for n words.
-fn checked_in(f: &[u8], out: &mut [u64], n: usize) -> Checked {
-    if n <= out.len() {
-        return check_packing::check_packing(f, &mut out[..n]);
+// A load file, how many findings are expected, and the bytes of those that the sample lists.
+#[derive(Clone, Copy)]
+struct Expected<'a> {
+    file: &'a [u8],
+    found: usize,
+    listed: &'a [u8],
+}
+
+impl<'a> Expected<'a> {
+    // The findings expected of the file come next.
+    fn read(file: &'a [u8], from: &mut Reader<'a>) -> Expected<'a> {
+        let found = from.size();
+        let listed = words_of(from.size());
+        Expected {
+            file,
+            found,
+            listed: from.part(listed * 8),
+        }
     }
-    check_packing::check_packing(f, out)
-}
 
-// With room for `room` words, which is enough: the findings expected, and the words past them unchanged.
-fn lists(b: &[u8], at: usize, f: &[u8], found: usize, room: usize) -> bool {
-    let listed = replay_vectors::size(replay_vectors::u32_at(b, replay_vectors::past(at, 4)));
-    let mut out = [UNTOUCHED; WORDS];
-    let c = checked_in(f, &mut out, room);
-    let words = same_words(b, replay_vectors::past(at, 8), &out, words_of(listed));
-    (c.refused == 0) & ((c.count == found) & (words & untouched(&out, words_of(found))))
-}
-
-// With too little room: refusal 6, the number of findings, and nothing changed.
-fn refuses(f: &[u8], found: usize, room: usize) -> bool {
-    let mut out = [UNTOUCHED; WORDS];
-    let c = checked_in(f, &mut out, room);
-    (c.refused == 6) & ((c.count == found) & untouched(&out, 0))
-}
-
-// What is expected of the findings stands at `at`.
-fn same_findings(b: &[u8], at: usize, f: &[u8]) -> bool {
-    let found = replay_vectors::size(replay_vectors::u32_at(b, at));
-    let n = words_of(found);
-    if n == 0 {
-        return lists(b, at, f, found, 0) & lists(b, at, f, found, WORDS);
+    // Whether the first words are those listed. A word past the words counts as 0.
+    fn lists(&self, words: &[u64; WORDS]) -> bool {
+        let mut from = Reader::new(self.listed);
+        (0..self.listed.len() / 8).all(|i| from.long() == words.get(i).copied().unwrap_or(0))
     }
-    if n > WORDS {
-        return refuses(f, found, WORDS);
+
+    // Whether the check with so many words lent finds what is expected and leaves the words past it, or for want of room is refused with the number
+    // of findings.
+    fn is_answer(&self, room: usize) -> bool {
+        let needed = words_of(self.found);
+        let mut words = [UNTOUCHED; WORDS];
+        let lent = &mut words[..room.min(WORDS)];
+        let (same, held) = match check_packing::check_packing(self.file, lent) {
+            Ok(found) => (
+                needed <= room && found == self.found && self.lists(&words),
+                needed,
+            ),
+            Err(refusal) => (room < needed && refusal == Refusal::Room(self.found), 0),
+        };
+        same && words.iter().skip(held).all(|word| *word == UNTOUCHED)
     }
-    let exact = lists(b, at, f, found, n) & lists(b, at, f, found, WORDS);
-    exact & refuses(f, found, n - 1)
 }
 
-// What is expected of the fill of the load file that the body begins with stands at `at`, at the end.
-fn same_fill(b: &[u8], at: usize) -> bool {
-    let n = replay_vectors::size(replay_vectors::u32_at(b, 0));
-    let filled = fill_thousand::fill_of(replay_vectors::part(b, 4, n));
-    let refused = replay_vectors::u32_at(b, at) == filled.refused;
-    let thousandth = replay_vectors::u64_at(b, replay_vectors::past(at, 4)) == filled.fill;
-    let ends = replay_vectors::past(at, 12) == b.len();
-    refused & (thousandth & ends)
+// Whether the fill of the load file is the one that comes next.
+fn same_fill(file: &[u8], from: &mut Reader) -> bool {
+    let (number, fill) = match fill_thousand::fill_of(file) {
+        Ok(fill) => (0, fill),
+        Err(refusal) => (refusal.number(), 0),
+    };
+    let refused = from.word() == number;
+    let thousandth = from.long() == fill;
+    refused && thousandth
 }
 
-// The place past n words from `at` on.
-fn past_words(at: usize, n: usize) -> usize {
-    if n > 5 * MOST_FOUND {
-        return at;
+fn same_check(mut from: Reader) -> bool {
+    let file = from.counted();
+    if file_read::read_sheet(file).is_err() {
+        return false;
     }
-    replay_vectors::past(at, n * 8)
+    let expected = Expected::read(file, &mut from);
+    let rooms = replay_vectors::rooms(words_of(expected.found), WORDS);
+    same_fill(file, &mut from) && from.ends() && rooms.iter().all(|room| expected.is_answer(*room))
 }
 
-fn one(b: &[u8]) -> bool {
-    let reading = replay_vectors::sheet_at(b, 0);
-    let s = reading.sheet;
-    let long = replay_vectors::size(replay_vectors::u32_at(b, 0));
-    let f = replay_sample::part(b, replay_vectors::past(0, 4), long);
-    let at = replay_vectors::after_bytes(b, 0);
-    let listed = replay_vectors::size(replay_vectors::u32_at(b, replay_vectors::past(at, 4)));
-    let after = past_words(replay_vectors::past(at, 8), words_of(listed));
-    (reading.refused == 0) & (same_findings(b, at, f) & same_fill(b, after))
-}
-
-fn all(s: &[u8]) -> replay_vectors::Tally {
-    let n = replay_vectors::u32_at(s, 0);
-    let mut t = replay_vectors::start();
-    let mut i = 0;
-    while i < n {
-        let same = (replay_vectors::tag(s, t) == 11) & one(replay_vectors::body(s, t));
-        t = replay_vectors::counted(s, t, same);
-        i += 1;
+fn one(tag: Tag, body: &[u8]) -> bool {
+    match tag {
+        Tag::Check => same_check(Reader::new(body)),
+        _ => false,
     }
-    t
 }
 
-fn main() {
-    let mut buf = replay_vectors::buffer();
-    let n = io::read_full(0, &mut buf);
-    let t = all(&buf[..n]);
-    replay_vectors::report(b"check", &buf[..n], t);
+fn main(rt: HostRuntime) {
+    replay_vectors::replay(&rt, "check", one);
 }

@@ -3,62 +3,43 @@
 
 #![tactic(auto)]
 
+use replay_vectors::{Reader, Tag};
+
 mod records; // records.rt: instance lists, and orientations for one
 mod placed; // placed.rt: items placed in the given order and orientations
 mod words; // words.rt: lists of numbers in the sample
 
-fn same_fitness(b: &[u8]) -> bool {
-    let placed = replay_vectors::size(replay_vectors::u32_at(b, 0));
-    let total = replay_vectors::size(replay_vectors::u32_at(b, 4));
-    let f = layer_fitness::packing_fitness(placed, total, replay_vectors::f64_at(b, 8));
-    let refused = replay_vectors::u32_at(b, 16) == f.refused;
-    (b.len() == 28) & (refused & replay_vectors::same_float(b, 20, f.value))
+fn same_fitness(mut from: Reader) -> bool {
+    let placed = from.size();
+    let total = from.size();
+    let (refused, value) = match layer_fitness::packing_fitness(placed, total, from.float()) {
+        Ok(value) => (0, value),
+        Err(refusal) => (refusal.number(), 0.0),
+    };
+    from.word() == refused && from.is_float(value) && from.ends()
 }
 
-fn same_unplaced(b: &[u8]) -> bool {
-    let left = plan_unplaced::unplaced_list(words::file_in(b));
-    let ids = left.ids;
-    let at = replay_vectors::after_bytes(b, 0);
-    let count = replay_vectors::size(replay_vectors::u32_at(b, at)) == left.count;
-    let seen = replay_results::same_ids(b, replay_vectors::past(at, 4), &ids, left.count);
-    (left.refused == 0) & (count & (seen.same & (seen.at == b.len())))
+fn same_unplaced(mut from: Reader) -> bool {
+    let Ok(left) = plan_unplaced::unplaced_list(from.counted()) else {
+        return false;
+    };
+    let count = from.size() == left.count;
+    let ids = replay_results::same_numbers(&mut from, &left.ids, left.count);
+    count && ids && from.ends()
 }
 
-fn one_list(tag: u32, b: &[u8]) -> bool {
-    if tag == 6 {
-        return records::same_instances(b);
+fn one(tag: Tag, body: &[u8]) -> bool {
+    let from = Reader::new(body);
+    match tag {
+        Tag::Items => placed::same_items(from),
+        Tag::Instances => records::same_instances(from),
+        Tag::Seeds => records::same_seeds(from),
+        Tag::Fitness => same_fitness(from),
+        Tag::Unplaced => same_unplaced(from),
+        _ => false,
     }
-    if tag == 7 {
-        return records::same_seeds(b);
-    }
-    (tag == 10) & same_unplaced(b)
 }
 
-fn one(tag: u32, b: &[u8]) -> bool {
-    if tag == 5 {
-        return placed::same_items(b);
-    }
-    if tag == 8 {
-        return same_fitness(b);
-    }
-    one_list(tag, b)
-}
-
-fn all(s: &[u8]) -> replay_vectors::Tally {
-    let n = replay_vectors::u32_at(s, 0);
-    let mut t = replay_vectors::start();
-    let mut i = 0;
-    while i < n {
-        let same = one(replay_vectors::tag(s, t), replay_vectors::body(s, t));
-        t = replay_vectors::counted(s, t, same);
-        i += 1;
-    }
-    t
-}
-
-fn main() {
-    let mut buf = replay_vectors::buffer();
-    let n = io::read_full(0, &mut buf);
-    let t = all(&buf[..n]);
-    replay_vectors::report(b"items", &buf[..n], t);
+fn main(rt: HostRuntime) {
+    replay_vectors::replay(&rt, "items", one);
 }

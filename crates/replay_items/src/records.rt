@@ -1,86 +1,77 @@
 // Instance lists of orders, and the orientations that a sheet's lines give to a list, with as many numbers lent as they need,
 // with more, and with one less.
+ghost use Rattle.std.specs.Prelude.{◌≤◌};
+
 use crate::words;
-use layer_instances::Built;
+use domain::Refusal;
+use replay_vectors::Reader;
 
-// Whether a call with so many numbers lent is answered as the count at `at` asks, behind which stand n numbers: they are handed
-// out, or for want of room refused with the count.
-fn is_answer(b: &[u8], at: usize, n: usize, got: Built, list: &[u32], room: usize) -> bool {
-    let count = replay_vectors::size(replay_vectors::u32_at(b, at)) == got.count;
-    let ends = words::past_words(replay_vectors::past(at, 4), n) == b.len();
-    if room < n {
-        return (got.refused == 6) & (count & (ends & words::untouched(list, 0)));
+// What stands in lent numbers that no call is to change.
+const UNTOUCHED: u32 = 2779096485;
+
+fn untouched(list: &[u32], from: usize) -> bool {
+    list.iter().skip(from).all(|number| *number == UNTOUCHED)
+}
+
+// Whether a call is answered as the list that comes next asks, which ends where the case does: it is handed out, or for want of room refused with
+// the count. So many numbers stand for each that is counted.
+fn is_answered<F: Fn(&mut [u32]) -> Result<usize, Refusal>>(
+    mut from: Reader,
+    each: usize,
+    call: F,
+) -> bool
+    requires callable { F.IsAlwaysCallable call }
+    requires few { each ≤ 3 }
+{
+    let count = from.size();
+    let needed = words::numbers_of(count, each);
+    let expected = from;
+    from.skip(4 * needed);
+    for room in replay_vectors::rooms(needed, words::MOST) {
+        let mut list = [UNTOUCHED; words::MOST];
+        let same = match call(&mut list[..room.min(words::MOST)]) {
+            Ok(told) => {
+                let handed = begins_with(expected, &list, needed) && untouched(&list, needed);
+                needed <= room && told == count && handed
+            }
+            Err(refusal) => {
+                room < needed && refusal == Refusal::Room(count) && untouched(&list, 0)
+            }
+        };
+        if !same {
+            return false;
+        }
     }
-    let same = words::same_words(b, replay_vectors::past(at, 4), list, n);
-    (got.refused == 0) & (count & (ends & (same & words::untouched(list, n))))
+    from.ends()
 }
 
-// The instance list with n numbers lent.
-fn build_in(order: &[u8], out: &mut [u32], n: usize) -> Built {
-    if n <= out.len() {
-        return layer_instances::build_instances(order, &mut out[..n]);
+// Whether the next n numbers are the first n of the list.
+fn begins_with(mut from: Reader, list: &[u32], n: usize) -> bool {
+    replay_results::same_numbers(&mut from, list, n)
+}
+
+// Whether a call is refused by this number, and changes nothing.
+fn refuses<F: Fn(&mut [u32]) -> Result<usize, Refusal>>(number: u32, call: F) -> bool
+    requires { F.IsAlwaysCallable call }
+{
+    let mut list = [UNTOUCHED; words::MOST];
+    call(&mut list).is_err_and(|refusal| refusal.number() == number) && untouched(&list, 0)
+}
+
+pub(crate) fn same_instances(mut from: Reader) -> bool {
+    let order = from.counted();
+    is_answered(from, layer_instances::RECORD, |list| {
+        layer_instances::build_instances(order, list)
+    })
+}
+
+pub(crate) fn same_seeds(mut from: Reader) -> bool {
+    let file = from.counted();
+    let mut room = [0; words::MOST];
+    let records = words::read_list(&mut from, layer_instances::RECORD, &mut room);
+    let call = |list: &mut [u32]| layer_seeds::seed_orientations(file, records, list);
+    match from.word() {
+        0 => is_answered(from, 1, call),
+        number => refuses(number, call) && from.ends(),
     }
-    layer_instances::build_instances(order, out)
-}
-
-fn built_with(b: &[u8], at: usize, n: usize, order: &[u8], room: usize) -> bool {
-    let mut out = [words::UNTOUCHED; words::MOST];
-    let got = build_in(order, &mut out, room);
-    is_answer(b, at, n, got, &out, room)
-}
-
-pub(crate) fn same_instances(b: &[u8]) -> bool {
-    let order = words::file_in(b);
-    let at = replay_vectors::after_bytes(b, 0);
-    let n = words::in_records(replay_vectors::size(replay_vectors::u32_at(b, at)));
-    let exact = built_with(b, at, n, order, n);
-    let roomy = built_with(b, at, n, order, words::MOST);
-    let short = built_with(b, at, n, order, replay_results::less_one(n));
-    exact & (roomy & short)
-}
-
-// The orientations with n numbers lent.
-fn seed_in(s: &[u8], records: &[u32], out: &mut [u32], n: usize) -> Built {
-    if n <= out.len() {
-        return layer_seeds::seed_orientations(s, records, &mut out[..n]);
-    }
-    layer_seeds::seed_orientations(s, records, out)
-}
-
-fn seeded_with(b: &[u8], at: usize, n: usize, s: &[u8], records: &[u32], room: usize) -> bool {
-    let mut out = [words::UNTOUCHED; words::MOST];
-    let got = seed_in(s, records, &mut out, room);
-    is_answer(b, at, n, got, &out, room)
-}
-
-// Whether the call is refused by this number.
-fn refused_by(s: &[u8], records: &[u32], number: u32) -> bool {
-    let mut out = [words::UNTOUCHED; words::MOST];
-    let got = seed_in(s, records, &mut out, words::MOST);
-    (got.refused == number) & ((got.count == 0) & words::untouched(&out, 0))
-}
-
-// What is expected stands at `at`: a refusal, or 0, a count and the orientations.
-fn same_answer(b: &[u8], at: usize, s: &[u8], records: &[u32]) -> bool {
-    let number = replay_vectors::u32_at(b, at);
-    let result = replay_vectors::past(at, 4);
-    if number != 0 {
-        return refused_by(s, records, number) & (result == b.len());
-    }
-    let n = replay_vectors::size(replay_vectors::u32_at(b, result));
-    let exact = seeded_with(b, result, n, s, records, n);
-    let roomy = seeded_with(b, result, n, s, records, words::MOST);
-    let short = seeded_with(b, result, n, s, records, replay_results::less_one(n));
-    exact & (roomy & short)
-}
-
-pub(crate) fn same_seeds(b: &[u8]) -> bool {
-    let s = words::file_in(b);
-    let at = replay_vectors::after_bytes(b, 0);
-    let first = replay_vectors::past(at, 4);
-    let threes = words::in_records(replay_vectors::size(replay_vectors::u32_at(b, at)));
-    let mut records = [0u32; words::MOST];
-    words::read_words(b, first, &mut records);
-    let list = words::first(&records, threes);
-    same_answer(b, words::past_words(first, threes), s, list)
 }

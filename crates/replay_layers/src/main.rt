@@ -2,35 +2,31 @@
 
 #![tactic(auto)]
 
+use replay_vectors::{Reader, Tag};
+
 mod calls; // calls.rt: a new fill and the boxes offered to it
 mod cursors; // cursors.rt: cursors, and the spot at any of them
-mod fills; // fills.rt: whole fills in listing order
 
-fn one(tag: u32, b: &[u8]) -> bool {
-    if tag == 4 {
-        return calls::same_calls(b);
-    }
-    if tag == 16 {
-        return cursors::same_spot(b);
-    }
-    (tag == 3) & fills::same_fill(b)
+// Whole fills: the boxes of an order in listing order, as far as a number to consider goes, with as many words lent as they
+// need, with more, and with one less.
+fn same_fill(mut from: Reader) -> bool {
+    let order = from.counted();
+    let consider = u64::from(from.word());
+    replay_results::is_answered(from, |words| {
+        plan_run::layer_fill_in_order(order, consider, words)
+    })
 }
 
-fn all(s: &[u8]) -> replay_vectors::Tally {
-    let n = replay_vectors::u32_at(s, 0);
-    let mut t = replay_vectors::start();
-    let mut i = 0;
-    while i < n {
-        let same = one(replay_vectors::tag(s, t), replay_vectors::body(s, t));
-        t = replay_vectors::counted(s, t, same);
-        i += 1;
+fn one(tag: Tag, body: &[u8]) -> bool {
+    let from = Reader::new(body);
+    match tag {
+        Tag::Layers => same_fill(from),
+        Tag::LayersState => calls::same_calls(from),
+        Tag::Spot => cursors::same_spot(from),
+        _ => false,
     }
-    t
 }
 
-fn main() {
-    let mut buf = replay_vectors::buffer();
-    let n = io::read_full(0, &mut buf);
-    let t = all(&buf[..n]);
-    replay_vectors::report(b"layers", &buf[..n], t);
+fn main(rt: HostRuntime) {
+    replay_vectors::replay(&rt, "layers", one);
 }

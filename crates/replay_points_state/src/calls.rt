@@ -1,114 +1,77 @@
 // A fresh state of an order's container, the boxes tried in it one by one, and what is stored at the end.
 use crate::stored;
-use measures::Kind;
-use point_place::{Answer, Tried};
-use point_state::ExtremePointSet;
+use domain::Refusal;
+use point_place::Tried;
+use point_state::{ExtremePointSet, PlacedBox};
+use replay_vectors::Reader;
 use sheet::Sheet;
-
-// Whether all was as expected so far, the state, and the place of what comes next.
-#[derive(Clone, Copy)]
-struct Progress {
-    same: bool,
-    set: ExtremePointSet,
-    at: usize,
-}
-
-// Whether the box placed last is this one.
-fn same_last(b: &[u8], at: usize, set: ExtremePointSet, id: u32, instance: u32) -> bool {
-    let n = point_reads::placed_count(set);
-    if n.count == 0 {
-        return false;
-    }
-    let found = point_reads::placed_box(set, n.count - 1);
-    let last = found.placed;
-    let position = last.position;
-    let who = (last.id == id) & (last.instance == instance);
-    found.found & (who & replay_vectors::same_three(b, at, position))
-}
 
 // What is expected of a call on a full placer: this refusal, and nothing moved.
 const FULL: u32 = 7;
 
-// Whether the answer is what is expected at `at`.
-fn same_answer(b: &[u8], at: usize, tried: Tried, id: u32, instance: u32) -> bool {
-    let next = tried.next;
-    let v = tried.at;
-    let took = replay_vectors::u32_at(b, at);
-    let place = replay_vectors::past(at, 4);
-    let live = point_reads::len(next);
-    let count = replay_vectors::size(replay_vectors::u32_at(b, replay_vectors::past(at, 28)))
-        == live.count;
-    let there = replay_vectors::same_three(b, place, v);
-    let answer = tried.answer;
-    match answer {
-        Answer::Stands => {
-            (took == 1) & (count & (there & same_last(b, place, next, id, instance)))
-        }
-        Answer::NoRoom => (took == 0) & (count & there),
-        Answer::Refused(n) => (took == FULL) & ((n == FULL) & (count & there)),
-    }
+// The box placed last.
+fn last_box(set: ExtremePointSet) -> Option<PlacedBox> {
+    let placed = point_reads::placed_count(set).ok()?;
+    point_reads::placed_box(set, placed.checked_sub(1)?).ok()?
 }
 
-// One call: a kind's place, an instance and an orientation, then what is expected.
-fn call(b: &[u8], s: Sheet, r: Progress) -> Progress {
-    let at = r.at;
-    let set = r.set;
-    let kind = replay_vectors::kind_of(s, replay_vectors::size(replay_vectors::u32_at(b, at)));
-    let instance = replay_vectors::u32_at(b, replay_vectors::past(at, 4));
-    let orientation = replay_vectors::u32_at(b, replay_vectors::past(at, 8));
-    let tried = point_place::try_place(set, kind, instance, orientation);
-    let next = tried.next;
-    let same = same_answer(b, replay_vectors::past(at, 12), tried, kind.id, instance);
-    Progress {
-        same: r.same & same,
-        set: next,
-        at: replay_vectors::past(at, 44),
-    }
+// Whether the box placed last is this one, at the point that comes next.
+fn is_last(mut from: Reader, set: ExtremePointSet, id: u32, instance: u32) -> bool {
+    last_box(set).is_some_and(|last| {
+        last.id == id && last.instance == instance && from.is_three(last.position)
+    })
 }
 
-// All the calls, from a fresh state on.
-fn run(b: &[u8], s: Sheet, at: usize) -> Progress {
-    let n = replay_vectors::u32_at(b, at);
-    let container = s.container;
-    let fresh = point_state::new(container);
-    let set = fresh.set;
-    let mut r = Progress {
-        same: fresh.refused == 0,
-        set,
-        at: replay_vectors::past(at, 4),
+// Whether the answer is what is expected.
+fn same_answer(from: &mut Reader, tried: &Tried, id: u32, instance: u32) -> bool {
+    let took = from.word();
+    let place = *from;
+    let (same, at) = match tried.answer {
+        Ok(Some(at)) => (took == 1 && is_last(place, tried.next, id, instance), at),
+        Ok(None) => (took == 0, [0.0; 3]),
+        Err(refusal) => (took == FULL && refusal == Refusal::Full, [0.0; 3]),
     };
-    let mut i = 0;
-    while i < n {
-        r = call(b, s, r);
-        i += 1;
+    let there = from.is_three(at);
+    let live = from.size();
+    same && there && point_reads::len(tried.next) == Ok(live)
+}
+
+// One call: a kind's place, an instance and an orientation, then what is expected. Where that comes, the state after it.
+fn call(from: &mut Reader, sheet: &Sheet, set: ExtremePointSet) -> Option<ExtremePointSet> {
+    let kind = replay_vectors::kind_of(sheet, from.size());
+    let instance = from.word();
+    let orientation = from.word();
+    let tried = point_place::try_place(set, kind, instance, orientation);
+    same_answer(from, &tried, kind.id, instance).then_some(tried.next)
+}
+
+// All the calls, from a fresh state on. Where each is as expected, the state after them.
+fn run(from: &mut Reader, sheet: &Sheet) -> Option<ExtremePointSet> {
+    let mut set = point_state::new(sheet.container).ok()?;
+    for _ in 0..from.word() {
+        set = call(from, sheet, set)?;
     }
-    r
+    Some(set)
 }
 
-// What is expected after all calls, from `at` on.
-fn same_end(b: &[u8], at: usize, set: ExtremePointSet) -> bool {
-    let boxes = point_reads::placed_count(set);
-    let volume = point_totals::total_volume(set);
-    let mass = point_totals::total_mass(set);
-    let live = point_reads::len(set);
-    let empty = point_reads::is_empty(set);
-    let n = replay_vectors::size(replay_vectors::u32_at(b, replay_vectors::past(at, 20)));
-    let list = replay_vectors::past(at, 24);
-    let fair = (boxes.refused == 0) & ((volume.refused == 0) & (mass.refused == 0));
-    let placed = replay_vectors::size(replay_vectors::u32_at(b, at)) == boxes.count;
-    let filled = replay_vectors::same_float(b, replay_vectors::past(at, 4), volume.amount);
-    let heavy = replay_vectors::same_float(b, replay_vectors::past(at, 12), mass.amount);
-    let held = stored::same_points(b, list, n, &set.points, live.count);
-    fair & (placed & (filled & (heavy & (held & (empty.holds == (n == 0))))))
+// Whether what is expected after all calls comes next, or the refusal of a state over its bounds.
+fn same_end(from: &mut Reader, set: ExtremePointSet) -> Result<bool, Refusal> {
+    let placed = from.size() == point_reads::placed_count(set)?;
+    let filled = from.is_float(point_totals::total_volume(set)?);
+    let heavy = from.is_float(point_totals::total_mass(set)?);
+    let n = from.word();
+    let empty = point_reads::is_empty(set)? == (n == 0);
+    let held = stored::same_points(*from, n, &set.points, point_reads::len(set)?);
+    from.skip(24 * n as usize);
+    Ok(placed && filled && heavy && held && empty)
 }
 
-pub(crate) fn same_calls(b: &[u8]) -> bool {
-    let reading = replay_vectors::sheet_at(b, 0);
-    let s = reading.sheet;
-    let r = run(b, s, replay_vectors::after_bytes(b, 0));
-    let at = r.at;
-    let set = r.set;
-    let n = replay_vectors::size(replay_vectors::u32_at(b, replay_vectors::past(at, 20)));
-    let ends = stored::past_points(replay_vectors::past(at, 24), n) == b.len();
-    (reading.refused == 0) & (r.same & (same_end(b, at, set) & ends))
+pub(crate) fn same_calls(mut from: Reader) -> bool {
+    let Ok(sheet) = replay_vectors::read_sheet(&mut from) else {
+        return false;
+    };
+    let Some(set) = run(&mut from, &sheet) else {
+        return false;
+    };
+    same_end(&mut from, set) == Ok(true) && from.ends()
 }

@@ -2,12 +2,14 @@
 
 #![tactic(auto)]
 
-ghost use Rattle.std.specs.Prelude.{◌≡◌, not, length, get_or};
-ghost use Rattle.lists.specs.Below.{any_below};
-ghost use Rattle.replay_results.specs.Results.{none, turns, id_at, id_turn, same_number, same_word, same_name, same_spot, same_line, line_turn, changed};
-ghost use Rattle.replay_results.specs.Results.{placed_at, words_of, less_one, same_lists, is_result, is_refused, is_answer};
+ghost use Rattle.std.specs.Prelude.{◌≡◌, ◌*◌, ◌+◌, ◌<◌};
+ghost use Rattle.replay_sample.specs.Places.{later, further};
+ghost use Rattle.replay_results.specs.Results.{same_numbers, placement_at, line_at, same_line, same_lines, untouched, placed_at, words_of};
+ghost use Rattle.replay_results.specs.Results.{same_lists, is_result, is_refused, is_answer};
 
+use domain::Refusal;
 use plan_sheet::Packed;
+use replay_vectors::Reader;
 
 // Words that a replay lends: those of as many lines as there can be, and two lines more.
 pub const WORDS: usize = (domain::MOST_LINES + 2) * plan_sheet::WORDS;
@@ -15,176 +17,78 @@ pub const WORDS: usize = (domain::MOST_LINES + 2) * plan_sheet::WORDS;
 // What stands in lent words that no call is to change.
 pub const UNTOUCHED: u64 = 11936128518282651045;
 
-// Whether all was the same so far, and the places of what comes next in the sample and among the words.
-#[derive(Clone, Copy)]
-pub struct Seen {
-    pub same: bool,
-    pub at: usize,
-    pub next: usize,
-}
-
-// Word i, or 0 past the words.
-fn word_at(words: &[u64], i: usize) -> u64
-    ensures { result ≡ get_or words.now i 0 }
+// Whether the next n numbers are the first n of the list, which has 0 past its end. It reads on past a difference, so that what comes next is in its
+// place.
+#[tactic(auto, unfolding(replay_sample::specs::Places::further, crate::specs::Results::same_numbers))]
+pub fn same_numbers(from: &mut Reader, list: &[u32], n: usize) -> bool
+    ensures value { result ≡ same_numbers from.old.bytes.now from.old.at list.now n }
+    ensures moved { from.new ≡ record from.old { at = further from.old.at 4 n } }
 {
-    if i < words.len() {
-        return words[i];
+    let mut same = true;
+    for i in 0..n {
+        same &= from.word() == list.get(i).copied().unwrap_or(0);
     }
-    0
+    same
 }
 
-fn id_at(ids: &[u32; domain::MOST_KINDS], i: usize) -> u32
-    ensures { result ≡ id_at ids.now i }
+// The next placement as the six words of a line: id, instance, orientation, and the bits of x, y and z.
+fn placement(from: &mut Reader) -> [u64; plan_sheet::WORDS]
+    ensures value { result ≡ placement_at from.old.bytes.now from.old.at }
+    ensures moved { from.new ≡ later from.old 36 }
 {
-    if i < domain::MOST_KINDS {
-        return ids[i];
+    [
+        u64::from(from.word()),
+        u64::from(from.word()),
+        u64::from(from.word()),
+        from.long(),
+        from.long(),
+        from.long(),
+    ]
+}
+
+// Line i, of which the words are 0 past their end.
+fn line(words: &[u64], i: usize) -> [u64; plan_sheet::WORDS]
+    requires { i < 4294967296 }
+    ensures { result ≡ line_at words.now (i * 6) }
+{
+    let k = i * plan_sheet::WORDS;
+    let word = |j: usize| words.get(k + j).copied().unwrap_or(0);
+    [word(0), word(1), word(2), word(3), word(4), word(5)]
+}
+
+// Whether the next placement is line i.
+#[tactic(auto, unfolding(crate::specs::Results::same_line))]
+fn same_line(from: &mut Reader, words: &[u64], i: usize) -> bool
+    requires { i < 4294967296 }
+    ensures value { result ≡ same_line from.old.bytes.now from.old.at words.now (i * 6) }
+    ensures moved { from.new ≡ later from.old 36 }
+{
+    placement(from) == line(words, i)
+}
+
+// Whether the next n placements are the first n lines.
+#[tactic(auto, unfolding(replay_sample::specs::Places::further, crate::specs::Results::same_lines))]
+fn same_lines(from: &mut Reader, words: &[u64], n: u32) -> bool
+    ensures value { result ≡ same_lines from.old.bytes.now from.old.at words.now n }
+    ensures moved { from.new ≡ record from.old { at = further from.old.at 36 n } }
+{
+    let mut same = true;
+    for i in 0..n {
+        same &= same_line(from, words, i as usize);
     }
-    0
-}
-
-// Before the first.
-fn none(at: usize) -> Seen
-    ensures { result ≡ none at }
-{
-    Seen {
-        same: true,
-        at,
-        next: 0,
-    }
-}
-
-// One id more.
-fn id_turn(b: &[u8], ids: &[u32; domain::MOST_KINDS], s: Seen) -> Seen
-    ensures { result ≡ id_turn b.now ids.now s }
-{
-    let same = replay_vectors::u32_at(b, s.at) == id_at(ids, s.next);
-    Seen {
-        same: s.same & same,
-        at: replay_vectors::past(s.at, 4),
-        next: replay_vectors::past(s.next, 1),
-    }
-}
-
-// Whether the n ids from `at` on are the first n of the list.
-pub fn same_ids(b: &[u8], at: usize, ids: &[u32; domain::MOST_KINDS], n: usize) -> Seen
-    ensures { result ≡ turns (id_turn b.now ids.now) (none at) n }
-{
-    let mut s = none(at);
-    let mut i = 0;
-    while i < n {
-        s = id_turn(b, ids, s);
-        i += 1;
-    }
-    s
-}
-
-// Whether the number of 32 bits at `at` is word i.
-fn same_number(b: &[u8], at: usize, words: &[u64], i: usize) -> bool
-    ensures { result ≡ same_number b.now at words.now i }
-{
-    replay_vectors::u32_at(b, at) as u64 == word_at(words, i)
-}
-
-// Whether the number of 64 bits at `at` is word i.
-fn same_word(b: &[u8], at: usize, words: &[u64], i: usize) -> bool
-    ensures { result ≡ same_word b.now at words.now i }
-{
-    replay_vectors::u64_at(b, at) == word_at(words, i)
-}
-
-// Whether the three numbers at `at` are the words from k on: id, instance and orientation.
-fn same_name(b: &[u8], at: usize, words: &[u64], k: usize) -> bool
-    ensures { result ≡ same_name b.now at words.now k }
-{
-    let id = same_number(b, at, words, k);
-    let instance = same_number(
-        b,
-        replay_vectors::past(at, 4),
-        words,
-        replay_vectors::past(k, 1),
-    );
-    let way = same_number(
-        b,
-        replay_vectors::past(at, 8),
-        words,
-        replay_vectors::past(k, 2),
-    );
-    id & (instance & way)
-}
-
-// The same of the three floats at `at`.
-fn same_spot(b: &[u8], at: usize, words: &[u64], k: usize) -> bool
-    ensures { result ≡ same_spot b.now at words.now k }
-{
-    let x = same_word(b, at, words, k);
-    let y = same_word(
-        b,
-        replay_vectors::past(at, 8),
-        words,
-        replay_vectors::past(k, 1),
-    );
-    let z = same_word(
-        b,
-        replay_vectors::past(at, 16),
-        words,
-        replay_vectors::past(k, 2),
-    );
-    x & (y & z)
-}
-
-// Whether the placement at `at` is the line whose six words start at k.
-fn same_line(b: &[u8], at: usize, words: &[u64], k: usize) -> bool
-    ensures { result ≡ same_line b.now at words.now k }
-{
-    let name = same_name(b, at, words, k);
-    let spot = same_spot(
-        b,
-        replay_vectors::past(at, 12),
-        words,
-        replay_vectors::past(k, 3),
-    );
-    name & spot
-}
-
-// One line more.
-fn line_turn(b: &[u8], words: &[u64], s: Seen) -> Seen
-    ensures { result ≡ line_turn b.now words.now s }
-{
-    let same = same_line(b, s.at, words, s.next);
-    Seen {
-        same: s.same & same,
-        at: replay_vectors::past(s.at, 36),
-        next: replay_vectors::past(s.next, 6),
-    }
-}
-
-// Whether the n placements from `at` on are the first n lines.
-fn lines(b: &[u8], at: usize, words: &[u64], n: usize) -> Seen
-    ensures { result ≡ turns (line_turn b.now words.now) (none at) n }
-{
-    let mut s = none(at);
-    let mut i = 0;
-    while i < n {
-        s = line_turn(b, words, s);
-        i += 1;
-    }
-    s
+    same
 }
 
 // Whether no word from `from` on was changed.
+#[tactic(auto, unfolding(crate::specs::Results::untouched))]
 fn untouched(words: &[u64], from: usize) -> bool
-    ensures { result ≡ not (any_below (changed from words.now) (length words.now)) }
+    ensures { result ≡ untouched from words.now }
 {
-    let mut changed = false;
-    let mut i = 0;
-    while i < words.len() {
-        changed = changed | ((from <= i) & (words[i] != UNTOUCHED));
-        i += 1;
-    }
-    !changed
+    words.iter().skip(from).all(|word| *word == UNTOUCHED)
 }
 
 // The words of so many lines, or 0 where they are more than there can be.
+#[tactic(auto, unfolding(crate::specs::Results::words_of))]
 fn words_of(placed: usize) -> usize
     ensures { result ≡ words_of placed }
 {
@@ -194,66 +98,97 @@ fn words_of(placed: usize) -> usize
     placed * plan_sheet::WORDS
 }
 
-// How many boxes the result at `at` places.
-fn placed_at(b: &[u8], at: usize) -> usize
-    ensures { result ≡ placed_at b.now at }
+// How many boxes the result that comes next places.
+fn placed_at(mut from: Reader) -> usize
+    ensures { result ≡ placed_at from.entry.bytes.now from.entry.at }
 {
-    replay_vectors::size(replay_vectors::u32_at(b, replay_vectors::past(at, 12)))
+    from.skip(12);
+    from.size()
 }
 
-// How many words the result at `at` needs.
-pub fn needed_at(b: &[u8], at: usize) -> usize
-    ensures { result ≡ words_of (placed_at b.now at) }
+// How many words the result that comes next needs.
+pub fn needed_at(from: Reader) -> usize
+    ensures { result ≡ words_of (placed_at from.entry.bytes.now from.entry.at) }
 {
-    words_of(placed_at(b, at))
+    words_of(placed_at(from))
 }
 
-pub fn less_one(n: usize) -> usize
-    ensures { result ≡ less_one n }
+// Whether the lines and the unplaced ids of the result that comes next, which ends where the case does, were handed out.
+#[tactic(auto, unfolding(crate::specs::Results::same_lists))]
+fn same_lists(mut from: Reader, p: &Packed, words: &[u64], placed: u32) -> bool
+    requires { placed ≡ p.now.placed }
+    ensures { result ≡ same_lists from.entry.bytes.now from.entry.at p.now words.now }
 {
-    if n == 0 {
-        return 0;
+    from.skip(16);
+    let lines = same_lines(&mut from, words, placed);
+    let unplaced = from.size() == p.unplaced;
+    let ids = same_numbers(&mut from, &p.ids, p.unplaced);
+    lines && unplaced && ids && from.ends()
+}
+
+// Whether the result that comes next was handed out, and the words past it are as they were.
+#[tactic(auto, unfolding(crate::specs::Results::is_result))]
+fn is_result(mut from: Reader, p: &Packed, words: &[u64]) -> bool
+    ensures { result ≡ is_result from.entry.bytes.now from.entry.at p.now words.now }
+{
+    let result = from;
+    let considered = u64::from(from.word()) == p.considered;
+    let utilization = from.is_float(p.utilization);
+    let placed = from.word();
+    if placed as usize != p.placed {
+        return false;
     }
-    n - 1
-}
-
-// Whether the lines and the unplaced ids of the result at `at`, which ends where the case does, were handed out.
-fn same_lists(b: &[u8], at: usize, p: Packed, words: &[u64]) -> bool
-    ensures { result ≡ same_lists b.now at p words.now }
-{
-    let ids = p.ids;
-    let placements = lines(b, replay_vectors::past(at, 16), words, p.placed);
-    let unplaced = replay_vectors::size(replay_vectors::u32_at(b, placements.at)) == p.unplaced;
-    let left = same_ids(b, replay_vectors::past(placements.at, 4), &ids, p.unplaced);
-    placements.same & (unplaced & (left.same & (left.at == b.len())))
-}
-
-// Whether the result at `at` was handed out, and the words past it are as they were.
-fn is_result(b: &[u8], at: usize, p: Packed, words: &[u64]) -> bool
-    ensures { result ≡ is_result b.now at p words.now }
-{
-    let considered = replay_vectors::u32_at(b, at) as u64 == p.considered;
-    let utilization = replay_vectors::same_float(b, replay_vectors::past(at, 4), p.utilization);
-    let placed = (placed_at(b, at) == p.placed) & (p.needed == p.placed);
-    let lists = same_lists(b, at, p, words);
+    let lists = same_lists(result, p, words, placed);
     let rest = untouched(words, words_of(p.placed));
-    (p.refused == 0) & (considered & (utilization & (placed & (lists & rest))))
+    considered && utilization && lists && rest
 }
 
 // Whether the call was refused by this number, and no word was changed.
-pub fn is_refused(p: Packed, number: u32, words: &[u64]) -> bool
-    ensures { result ≡ is_refused p number words.now }
+#[tactic(auto, unfolding(crate::specs::Results::is_refused))]
+pub fn is_refused(answer: Result<Packed, Refusal>, number: u32, words: &[u64]) -> bool
+    ensures { result ≡ is_refused answer number words.now }
 {
-    (p.refused == number) & ((p.placed == 0) & untouched(words, 0))
+    match answer {
+        Ok(_) => false,
+        Err(refusal) => refusal.number() == number && untouched(words, 0),
+    }
 }
 
-// Whether the call with so many words lent is answered as the result at `at` asks: it is handed out, or for want of room
-// refused with the number of lines.
-pub fn is_answer(b: &[u8], at: usize, p: Packed, words: &[u64], room: usize) -> bool
-    ensures { result ≡ is_answer b.now at p words.now room }
+// Whether the call with so many words lent is answered as the result that comes next asks: it is handed out, or for want of room refused with
+// the number of lines.
+#[tactic(auto, unfolding(crate::specs::Results::is_answer))]
+pub fn is_answer(from: Reader, answer: Result<Packed, Refusal>, words: &[u64], room: usize) -> bool
+    ensures { result ≡ is_answer from.entry.bytes.now from.entry.at answer words.now room }
 {
-    if room < needed_at(b, at) {
-        return (p.needed == placed_at(b, at)) & is_refused(p, 6, words);
+    let needed = needed_at(from);
+    match answer {
+        Ok(packed) => needed <= room && is_result(from, &packed, words),
+        Err(refusal) => {
+            let told = refusal.needed() == placed_at(from);
+            room < needed && told && is_refused(answer, 6, words)
+        }
     }
-    is_result(b, at, p, words)
+}
+
+// Whether a call is answered as the result that comes next asks, with as many words lent as it needs, with more, and with one less.
+pub fn is_answered<F: Fn(&mut [u64]) -> Result<Packed, Refusal>>(from: Reader, call: F) -> bool
+    requires { F.IsAlwaysCallable call }
+{
+    for room in replay_vectors::rooms(needed_at(from), WORDS) {
+        let mut words = [UNTOUCHED; WORDS];
+        let answer = call(&mut words[..room.min(WORDS)]);
+        if !is_answer(from, answer, &words, room) {
+            return false;
+        }
+    }
+    true
+}
+
+// Whether a call is refused by this number, and changes no word.
+pub fn refuses<F: Fn(&mut [u64]) -> Result<Packed, Refusal>>(number: u32, call: F) -> bool
+    requires { F.IsAlwaysCallable call }
+{
+    let mut words = [UNTOUCHED; WORDS];
+    let answer = call(&mut words);
+    is_refused(answer, number, &words)
 }

@@ -2,6 +2,5 @@
 pub mod Sheets
 pub mod Accepted
 pub mod Ids
-pub mod Columns
-pub mod Room
+pub mod Firsts
 pub mod Alike

@@ -1,5 +1,5 @@
 -- What a sheet holds, and the refusal that it gets, from 2 on and in the stated order. RULES: Refusals
-use Rattle.std.specs.Prelude.{ℕ, Bool, not, ◌&&◌, ◌||◌, cond, List, [], eqb, ltb, leb, get_or, replicate}
+use Rattle.std.specs.Prelude.{ℕ, Bool, not, ◌&&◌, ◌||◌, cond, List, [], eqb, ltb, leb, get_or, replicate, Float}
 use Rattle.std.specs.Float.{nan}
 use Rattle.floats.specs.Ops.{none, nowhere, x, y, z}
 use Rattle.lists.specs.Table.{table}
@@ -30,6 +30,10 @@ no_kind = record { id = 0; quantity = 0; size = []; mass = nan; rule = 0; massed
 
 abbrev pub no_line : Line
 no_line = record { id = 0; instance = 0; orientation = 0; bin = 0; at = [] }
+
+-- a line of a planned sheet: there is one case, and it stands in that
+abbrev pub line_for : ℕ → ℕ → ℕ → List Float → Line
+line_for id instance turn at = record { id = id; instance = instance; orientation = turn; bin = 0; at = at }
 
 -- ---- cells of a sheet past those that count are blank, and a sheet with nothing in it is blank throughout: it is refused by 3 wherever it is handed in
 abbrev pub blank_kind : Kind

@@ -3,15 +3,15 @@
 
 #![tactic(auto)]
 
-ghost use Rattle.std.specs.Prelude.{◌≡◌, ◌≤◌, ◌<◌, get_or};
-ghost use Rattle.domain.specs.Bounds.{most_kinds, most_lines};
+ghost use Rattle.std.specs.Prelude.{◌≡◌, ◌≤◌, length};
+ghost use Rattle.domain.specs.Bounds.{most_kinds};
 ghost use Rattle.lists.specs.Below.{sum_below};
 ghost use Rattle.domain.specs.Refusals.{first_below};
-ghost use Rattle.sheet.specs.Sheets.{blank_kind, blank_line, empty_sheet, among, ids_below};
+ghost use Rattle.domain.specs.Refusal.{answer_of};
+ghost use Rattle.sheet.specs.Sheets.{blank_kind, blank_line, empty_sheet, among};
 ghost use Rattle.sheet.specs.Sheets.{over_count, quantity_of, kind_fault_in, line_fault, line_fault_in, sheet_refusal};
-ghost use Rattle.sheet.specs.Columns.{columns};
-ghost use Rattle.sheet.specs.Room.{has_room};
 
+use domain::{Refusal, refuse};
 use measures::{Container, Kind};
 
 // A placement line: instance `instance` of the kind `id`, turned to `orientation`, in case `bin`, its near corner at `at`.
@@ -32,6 +32,7 @@ pub struct Counts {
 }
 
 // The first `many.kinds` of the kinds count, and so for the lines and the unplaced ids.
+// Stays: counts beside stores of a fixed size, as a sheet with counts over its stores is refused by 2 (sheet: over_count), and no heap is used.
 #[derive(Clone, Copy)]
 pub struct Sheet {
     pub many: Counts,
@@ -104,7 +105,7 @@ pub fn over_count(many: Counts) -> bool
         | ((many.lines > domain::MOST_LINES) | (many.unplaced > domain::MOST_UNPLACED))
 }
 
-// Whether the id is among the first n; of more than there are, it is not.
+// Whether the id is among the first n; of more than there are, it is not. No branch, so that many are looked at together.
 pub fn is_among(ids: &[u32; domain::MOST_KINDS], n: usize, id: u32) -> bool
     ensures { result ≡ among ids.now id n }
 {
@@ -112,111 +113,68 @@ pub fn is_among(ids: &[u32; domain::MOST_KINDS], n: usize, id: u32) -> bool
         return false;
     }
     let mut found = false;
-    let mut j = 0;
-    while j < n {
-        found = found | (ids[j] == id);
-        j += 1;
+    for other in &ids[..n] {
+        found = found | (*other == id);
     }
     found
 }
 
-// The ids of the first n kinds, in order.
-fn kind_ids(kinds: [Kind; domain::MOST_KINDS], n: usize) -> [u32; domain::MOST_KINDS]
-    requires { n ≤ most_kinds }
-    ensures { result ≡ ids_below kinds n }
+// What the first faulty kind is refused for.
+fn kinds_fault(kinds: &[Kind]) -> Result<(), Refusal>
+    requires { length kinds.now ≤ most_kinds }
+    ensures { result ≡ answer_of (first_below (kind_fault_in kinds.now) (length kinds.now)) tt }
 {
     let mut ids = [0u32; domain::MOST_KINDS];
-    let mut k = 0;
-    while k < n {
-        let kind = kinds[k];
+    for (k, kind) in kinds.iter().enumerate() {
+        measures::kind_fault(*kind, is_among(&ids, k, kind.id))?;
         ids[k] = kind.id;
-        k += 1;
     }
-    ids
-}
-
-// The first refusal that a kind gives, kind by kind.
-fn kinds_fault(kinds: [Kind; domain::MOST_KINDS], n: usize) -> u32
-    requires { n ≤ most_kinds }
-    ensures { result ≡ first_below (kind_fault_in kinds) n }
-{
-    let ids = kind_ids(kinds, n);
-    let mut r = 0;
-    let mut k = 0;
-    while k < n {
-        let kind = kinds[k];
-        r = domain::or_else(r, measures::kind_fault(kind, is_among(&ids, k, kind.id)));
-        k += 1;
-    }
-    r
-}
-
-fn wide(x: u32) -> u64
-    ensures { (result ≡ x) × (result < 4294967296) }
-{
-    x as u64
+    Ok(())
 }
 
 // The quantity over all kinds. It cannot wrap: at most 64 numbers of 32 bits.
-fn total_quantity(kinds: [Kind; domain::MOST_KINDS], n: usize) -> u64
-    requires { n ≤ most_kinds }
-    ensures { result ≡ sum_below (quantity_of kinds) n }
+fn total_quantity(kinds: &[Kind]) -> u64
+    requires { length kinds.now ≤ most_kinds }
+    ensures { result ≡ sum_below (quantity_of kinds.now) (length kinds.now) }
 {
-    let mut t = 0;
-    let mut k = 0;
-    while k < n {
-        let kind = kinds[k];
-        t += wide(kind.quantity);
-        k += 1;
+    let mut total = 0;
+    for kind in kinds {
+        total += u64::from(kind.quantity);
     }
-    t
+    total
 }
 
-fn line_fault(l: Line) -> u32
-    ensures { result ≡ line_fault l }
+// What a line is refused for.
+fn line_fault(line: Line) -> Result<(), Refusal>
+    ensures { result ≡ answer_of (line_fault line) tt }
 {
-    let at = l.at;
-    let bad = !domain::is_position(at[0])
+    let at = line.at;
+    let misplaced = !domain::is_position(at[0])
         | (!domain::is_position(at[1]) | !domain::is_position(at[2]));
-    domain::given(bad, 3)
+    refuse(misplaced, Refusal::Measure)
 }
 
-fn lines_fault(lines: [Line; domain::MOST_LINES], n: usize) -> u32
-    requires { n ≤ most_lines }
-    ensures { result ≡ first_below (line_fault_in lines) n }
+// What the first line that is refused is refused for.
+fn lines_fault(lines: &[Line]) -> Result<(), Refusal>
+    ensures { result ≡ answer_of (first_below (line_fault_in lines.now) (length lines.now)) tt }
 {
-    let mut r = 0;
-    let mut i = 0;
-    while i < n {
-        let l = lines[i];
-        r = domain::or_else(r, line_fault(l));
-        i += 1;
+    for line in lines {
+        line_fault(*line)?;
     }
-    r
+    Ok(())
 }
 
-// The refusal that a sheet gets, 0 for none, in the stated order from 2 on.
-pub fn sheet_refusal(s: Sheet) -> u32
-    ensures { result ≡ sheet_refusal s }
+// What a sheet is refused for, in the stated order from 2 on.
+pub fn sheet_refusal(s: Sheet) -> Result<(), Refusal>
+    ensures { result ≡ answer_of (sheet_refusal s) tt }
 {
-    let many = s.many;
-    let kinds = s.kinds;
-    let lines = s.lines;
-    let n = many.kinds;
-    let m = many.lines;
-    if over_count(many) {
-        return 2;
-    }
-    let block = domain::given(measures::container_fault(s.container), 3);
-    let kind = kinds_fault(kinds, n);
-    let total = domain::given(total_quantity(kinds, n) > domain::MOST_BOXES as u64, 2);
-    let line = lines_fault(lines, m);
-    domain::or_else(block, domain::or_else(kind, domain::or_else(total, line)))
-}
-
-// Whether four lent columns have a cell each for n lines.
-pub fn has_room(ids: &[u32], instances: &[u32], turns: &[u32], spots: &[[f64; 3]], n: usize) -> bool
-    ensures { result ≡ has_room (columns ids.now instances.now turns.now spots.now) n }
-{
-    ((n <= ids.len()) & (n <= instances.len())) & ((n <= turns.len()) & (n <= spots.len()))
+    refuse(over_count(s.many), Refusal::Count)?;
+    refuse(measures::container_fault(s.container), Refusal::Measure)?;
+    let kinds = &s.kinds[..s.many.kinds];
+    kinds_fault(kinds)?;
+    refuse(
+        total_quantity(kinds) > domain::MOST_BOXES as u64,
+        Refusal::Count,
+    )?;
+    lines_fault(&s.lines[..s.many.lines])
 }

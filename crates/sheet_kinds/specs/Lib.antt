@@ -1,4 +1,2 @@
--- The survey of a list of kinds, and the scan that makes it.
+-- The survey of a list of kinds.
 pub mod Survey
-pub mod Scan
-pub mod Scanned

@@ -1,9 +1,9 @@
 -- A number in decimal digits, without leading zeros, in ASCII; and that the digits' value is the number.
-use Rattle.std.specs.Prelude.{ℕ, zero, suc, ◌+◌, ◌*◌, ◌-◌, ◌/◌, ◌%◌, ◌^◌, ◌≤◌, ◌<◌, Bool, true, false, cond, List, [], ◌∷◌, ◌++◌, ◌≡◌, refl, ltb, length}
-use Rattle.std.proofs.Common.{◌∙◌, arith, div-add-mod', div-lt_iff_lt-mul, le-div_iff_mul-le, mod-lt, mod-eq_of_lt, pow-suc, not-suc-le-zero, lt_of_not-le}
-use Rattle.std.proofs.Common.{not-le_of_lt, le_trans, length-append, lt-ltb, le-ltb, ltb-true}
-use Rattle.std.proofs.Math.Nat.{one-le-pow, pow-le-pow_right}
-use Rattle.io.specs.Digits.{last_digits, IsDigitCount}
+use Rattle.std.specs.Prelude.{ℕ, zero, suc, ◌+◌, ◌/◌, ◌%◌, ◌^◌, ◌≤◌, ◌<◌, Bool, true, false, cond, List, [], ◌∷◌, ◌++◌, ◌≡◌, refl, ltb, length}
+use Rattle.std.proofs.Common.{sym, ◌∙◌, arith, div-add-mod', div-lt_iff_lt-mul, mod-lt, pow-suc}
+use Rattle.std.proofs.Common.{length-append, lt-ltb, le-ltb, ltb-true}
+use Rattle.std.proofs.lemmas.Fmt.{AppendsLastDigit, decimal_from_appends, length-decimal-le}
+use Rattle.std.specs.Fmt.{decimal}
 use Rattle.show.specs.Digits.{digit_value, value_from, value_of, value_more}
 
 -- at most k digits
@@ -53,29 +53,13 @@ decimal_value (suc k) n h = value_by k n (ltb n 10) refl (decimal_value k (n / 1
 pub decimal_is : (n : ℕ) → n < 18446744073709551616 → value_of 10 (decimal_of n) ≡ n
 decimal_is n h = decimal_value 20 n (omega arith)
 
--- as many digits as a number needs, one after the other, are its decimal digits
-spelled : (f k n : ℕ) → suc k ≤ f → n < 10 ^ suc k → (0 < k → 10 ^ k ≤ n) → last_digits 10 (suc k) n ≡ decimal_to f n
+appends : AppendsLastDigit decimal_to
 unfolding decimal_to
-spelled zero k n room h l = absurd (not-suc-le-zero room)
-spelled (suc f) zero n room h l = let s : n < 10 = h in rw (mod-eq_of_lt s, lt-ltb n 10 s)
-spelled (suc f) (suc j) n room h l =
-    let m : 10 ^ suc j ≤ n = l (omega arith) in
-    let w : 10 ^ j * 10 ≤ n = rw (pow-suc 10 j) at m in
-    let p : 0 < 10 ^ j = one-le-pow j 10 (omega arith) in
-    let big : 10 ≤ n = omega arith in
-    let rest = spelled f j (n / 10) (omega arith) (tenth (suc j) n h) (λ _. (le-div_iff_mul-le {k = 10} {x = 10 ^ j} {y = n} (omega arith)).1 w) in
-    rw (le-ltb n 10 big, rest, lt-ltb (n % 10) 10 (mod-lt n (omega arith)))
+appends = record {
+  one = λ k n h. rw (lt-ltb n 10 h) refl;
+  more = λ k n h. rw (le-ltb n 10 h) refl;
+}
 
-pub fewest_decimal : (n k : ℕ) → k ≤ 20 → IsDigitCount 10 1 n k → last_digits 10 k n ≡ decimal_of n
-fewest_decimal n zero room f = absurd (not-suc-le-zero f.0)
-fewest_decimal n (suc k) room f = spelled 20 k n room f.1 (λ l. let e : suc k - 1 ≡ k = omega arith in rw e at (f.2 (omega arith)))
-
--- a word has at most twenty digits
-pub few_digits : (n k : ℕ) → n < 18446744073709551616 → IsDigitCount 10 1 n k → k ≤ 20
-few_digits n k small f =
-    let l : k < 21 =
-    lt_of_not-le (λ (h : 21 ≤ k).
-    let a : 10 ^ (k - 1) ≤ n = f.2 (omega arith) in
-    let b : 10 ^ 20 ≤ 10 ^ (k - 1) = pow-le-pow_right (omega arith) {i = 20} {j = k - 1} (omega arith) in
-    not-le_of_lt small (le_trans (omega arith) (le_trans b a))) in
-    omega arith
+-- they are what `{}` writes of a number
+pub decimal_std : (n : ℕ) → n < 18446744073709551616 → decimal n ≡ decimal_of n
+decimal_std n h = sym (decimal_from_appends decimal_to appends 20 n h (length-decimal-le 20 n (omega arith) (omega arith) h))

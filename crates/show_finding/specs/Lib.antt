@@ -2,4 +2,4 @@
 pub mod Names
 pub mod Decimal
 pub mod Line
-pub mod Puts
+pub mod Length

@@ -1,6 +1,6 @@
 -- A finding as one line of text: its name, its fields, each behind a space, and the end of the line.
-use Rattle.std.specs.Prelude.{ℕ, ◌+◌, ◌*◌, ◌≤◌, Bool, cond, ◌&&◌, ◌||◌, List, [], ◌∷◌, ◌++◌, ◌≡◌, ltb, leb, eqb, length}
-use Rattle.std.proofs.lemmas.List.Edits.{sets}
+use Rattle.std.specs.Prelude.{ℕ, ◌+◌, ◌*◌, Bool, cond, ◌&&◌, ◌||◌, List, [], ◌∷◌, ◌++◌, ltb, leb, eqb, slice_index, ◌≡◌, refl, Option, Some}
+use Rattle.std.specs.Fmt.{with_newline}
 use Rattle.show.specs.Hex.{hex_of}
 use Rattle.show_finding.specs.Names.{name_of}
 use Rattle.show_finding.specs.Decimal.{decimal_of}
@@ -21,9 +21,22 @@ word_of n i w = cond (is_float n i) (hex_of w) (decimal_of w)
 unfoldable pub field_of : ℕ → ℕ → ℕ → List ℕ
 field_of n i w = cond (leb (used_of n) i) [] (32 ∷ word_of n i w)
 
--- RULES: Programs. The line of a finding n with the fields a, b, c, d.
+-- RULES: Programs. The text of a finding n with the fields a, b, c, d, and its line.
+unfoldable pub finding_text : ℕ → ℕ → ℕ → ℕ → ℕ → List ℕ
+finding_text n a b c d = name_of n ++ field_of n 0 a ++ field_of n 1 b ++ field_of n 2 c ++ field_of n 3 d
+
 unfoldable pub finding_line : ℕ → ℕ → ℕ → ℕ → ℕ → List ℕ
-finding_line n a b c d = name_of n ++ field_of n 0 a ++ field_of n 1 b ++ field_of n 2 c ++ field_of n 3 d ++ (10 ∷ [])
+finding_line n a b c d = finding_text n a b c d ++ (10 ∷ [])
+
+-- the text of a finding's five words
+abbrev pub text_of : List ℕ → List ℕ
+text_of ws = finding_text (slice_index ws 0) (slice_index ws 1) (slice_index ws 2) (slice_index ws 3) (slice_index ws 4)
+
+-- with the end that `println!` writes behind it, it is the line
+pub text_line : (ws : List ℕ)
+    → with_newline (Some (text_of ws)) ≡ Some (finding_line (slice_index ws 0) (slice_index ws 1) (slice_index ws 2) (slice_index ws 3) (slice_index ws 4))
+unfolding finding_line
+text_line ws = refl
 
 -- the letters of the longest name, of the longest word, of a field, which is a word behind a space, and of the longest line with its end
 abbrev pub most_name : ℕ
@@ -37,14 +50,3 @@ most_field = 1 + most_word
 
 abbrev pub most_letters : ℕ
 most_letters = most_name + 4 * most_field + 1
-
--- o' is o with a text from `at` on, and r is where it ends
-pub record Put (o : List ℕ) (at : ℕ) (text : List ℕ) (r : ℕ) (o' : List ℕ) : Type 0 where
-  pub cells : o' ≡ sets o at text
-  pub end : r ≡ at + length text
-
--- .. at the start of lent cells: those behind it hold what they held
-pub record Shown (o text : List ℕ) (r : ℕ) (o' : List ℕ) : Type 0 where
-  pub count : r ≡ length text
-  pub cells : o' ≡ sets o 0 text
-  pub few : r ≤ most_letters

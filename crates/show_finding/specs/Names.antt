@@ -1,6 +1,7 @@
 -- The names of the findings as they are printed, in ASCII: RULES, Programs.
-use Rattle.std.specs.Prelude.{◌≡◌, refl, List, [], ◌∷◌, ℕ, zero, suc, ◌≤◌, length, get_or}
+use Rattle.std.specs.Prelude.{◌≡◌, List, [], ◌∷◌, ℕ, zero, suc, ◌<◌, ◌≤◌, length, get_or}
 use Rattle.std.proofs.Common.{arith}
+use Rattle.std.proofs.lemmas.List.{get_or_past}
 
 -- "unknown"
 abbrev pub unknown_name : List ℕ
@@ -68,22 +69,10 @@ name_of n = get_or names n wrongly_unplaced_name
 
 -- ---- laws
 
--- a number that is none of the others has the last name
-pub name_last : (n : ℕ) → (n ≡ 1 → ⊥) → (n ≡ 2 → ⊥) → (n ≡ 3 → ⊥) → (n ≡ 4 → ⊥) → (n ≡ 5 → ⊥) → (n ≡ 6 → ⊥) → (n ≡ 7 → ⊥) → (n ≡ 8 → ⊥)
-    → (n ≡ 9 → ⊥) → (n ≡ 10 → ⊥) → name_of n ≡ wrongly_unplaced_name
+-- a number past the others has the last name
+pub name_last : (n : ℕ) → 10 < n → name_of n ≡ wrongly_unplaced_name
 unfolding name_of
-name_last zero a b c d e f g h i j = refl
-name_last (suc zero) a b c d e f g h i j = absurd (a refl)
-name_last (suc (suc zero)) a b c d e f g h i j = absurd (b refl)
-name_last (suc (suc (suc zero))) a b c d e f g h i j = absurd (c refl)
-name_last (suc (suc (suc (suc zero)))) a b c d e f g h i j = absurd (d refl)
-name_last (suc (suc (suc (suc (suc zero))))) a b c d e f g h i j = absurd (e refl)
-name_last (suc (suc (suc (suc (suc (suc zero)))))) a b c d e f g h i j = absurd (f refl)
-name_last (suc (suc (suc (suc (suc (suc (suc zero))))))) a b c d e f g h i j = absurd (g refl)
-name_last (suc (suc (suc (suc (suc (suc (suc (suc zero)))))))) a b c d e f g h i j = absurd (h refl)
-name_last (suc (suc (suc (suc (suc (suc (suc (suc (suc zero))))))))) a b c d e f g h i j = absurd (i refl)
-name_last (suc (suc (suc (suc (suc (suc (suc (suc (suc (suc zero)))))))))) a b c d e f g h i j = absurd (j refl)
-name_last (suc (suc (suc (suc (suc (suc (suc (suc (suc (suc (suc n))))))))))) a b c d e f g h i j = refl
+name_last n h = get_or_past names n wrongly_unplaced_name h
 
 -- no name has more than sixteen letters
 pub name_length : (n : ℕ) → length (name_of n) ≤ 16

@@ -1,10 +1,9 @@
 -- A word as a number: decimal digits and nothing else.
 use Rattle.std.specs.Prelude.{ℕ, suc, ◌+◌, ◌*◌, ◌<◌, ◌≤◌, Bool, true, false, not, cond, ◌&&◌, List, [], ◌∷◌, ◌≡◌, refl, ltb, leb, eqb, length, get_or, drop}
-use Rattle.std.specs.Prelude.{take}
-use Rattle.std.proofs.Common.{sym, ◌∙◌, arith, le-ltb, ltb-true, ltb-false, drop-cons, take-suc}
+use Rattle.std.specs.Prelude.{min, ◌-◌, take, Option, Some, None}
+use Rattle.std.proofs.Common.{sym, ◌∙◌, arith, lt-ltb, le-ltb, ltb-true, ltb-false, leb-true, eqb-true, drop-cons, take-suc}
 use Rattle.std.proofs.Math.Seq.{drop-length}
 use Rattle.show.specs.Digits.{digit_value, value_from, value_of, value_more}
-use Rattle.show_number.specs.declared.Number.{Number}
 
 abbrev pub is_digit : ℕ → Bool
 is_digit c = leb 48 c && leb c 57
@@ -24,9 +23,9 @@ most_number = 1000000
 unfoldable pub capped : ℕ → ℕ
 capped v = cond (ltb v most_number) v most_number
 
--- RULES: Programs. What a word says as a number: whether it is one, and its value, 0 beside a word that is none.
-unfoldable pub number_of : List ℕ → Number
-number_of w = record { ok = is_number w; value = cond (is_number w) (capped (value_of 10 w)) 0 }
+-- RULES: Programs. What a word says as a number, and none where it is no number.
+unfoldable pub number_of : List ℕ → Option ℕ
+number_of w = cond (is_number w) (Some (capped (value_of 10 w))) None
 
 -- ---- laws
 
@@ -59,26 +58,54 @@ pub no_more : (w : List ℕ) → all_digits (drop (length w) w) ≡ true
 unfolding all_digits
 no_more w = rw (drop-length w)
 
--- the capped value of one letter more
-pub value_next : (w : List ℕ) (i n : ℕ) → i < length w → n ≡ capped (value_of 10 (take i w))
-    → capped (n * 10 + digit_value (get_or w i 0)) ≡ capped (value_of 10 (take (suc i) w))
-value_next w i n h e =
-    rw e
-    (capped_more (value_of 10 (take i w)) (digit_value (get_or w i 0))
-    ∙ rw (take-suc w i 0 h, value_more 10 0 (take i w) (get_or w i 0)))
-
 pub value_none : (w : List ℕ) → 0 ≡ capped (value_of 10 (take 0 w))
 unfolding capped value_from
 value_none w = refl
 
--- a letter that is no digit decides, and a digit leaves it to those behind it
-pub stops : (w : List ℕ) (i : ℕ) (digit : Bool) → i < length w → digit ≡ is_digit (get_or w i 0) → not digit ≡ true
-    → all_digits (drop i w) ≡ all_digits w → false ≡ is_number w
-unfolding is_number
-stops w i true h e n all = let z : ◌≡◌ {A = ℕ} 0 1 = cc in absurd (omega arith)
-stops w i false h e n all = rw (← all, digits_from w i h, ← e)
+-- a word without letters is no number, nor is one with a letter that is no digit
+pub none_of_empty : (w : List ℕ) → eqb (length w) 0 ≡ true → number_of w ≡ None
+unfolding number_of is_number all_digits
+none_of_empty [] e = refl
+none_of_empty (c ∷ cs) e = let z = eqb-true _ _ e in absurd (omega arith)
 
-pub goes_on : (w : List ℕ) (i : ℕ) (digit : Bool) → i < length w → digit ≡ is_digit (get_or w i 0) → not digit ≡ false
-    → all_digits (drop i w) ≡ all_digits w → all_digits (drop (suc i) w) ≡ all_digits w
-goes_on w i true h e n all = (rw (← e) at (sym (digits_from w i h))) ∙ all
-goes_on w i false h e n all = let z : ◌≡◌ {A = ℕ} 0 1 = cc in absurd (omega arith)
+pub none_of_letter : (w : List ℕ) (i : ℕ) → i < length w → is_digit (get_or w i 0) ≡ false → all_digits (drop i w) ≡ all_digits w → number_of w ≡ None
+unfolding number_of is_number
+none_of_letter w i h e all = rw (← all, digits_from w i h, e) refl
+
+-- a digit leaves it to the letters behind it
+pub goes_on : (w : List ℕ) (i : ℕ) → i < length w → is_digit (get_or w i 0) ≡ true → all_digits (drop i w) ≡ all_digits w
+    → all_digits (drop (suc i) w) ≡ all_digits w
+goes_on w i h e all = (rw e at (sym (digits_from w i h))) ∙ all
+
+-- a word with letters and without one that is no digit is a number
+pub some_of_digits : (w : List ℕ) → eqb (length w) 0 ≡ false → all_digits (drop (length w) w) ≡ all_digits w
+    → number_of w ≡ Some (capped (value_of 10 w))
+unfolding number_of is_number
+some_of_digits w e all = rw (← all, no_more w, e) refl
+
+both_by : (low high : Bool) → (low && high) ≡ true → high ≡ true
+both_by true high e = e
+both_by false true e = refl
+both_by false false e = e
+
+digit_is : (c : ℕ) → is_digit c ≡ true → digit_value c ≡ c - 48
+unfolding digit_value
+digit_is c e = let few = leb-true _ _ (both_by (leb 48 c) (leb c 57) e) in rw (lt-ltb c 58 (omega arith)) refl
+
+cap_by : (v : ℕ) (small : Bool) → ltb v most_number ≡ small → min v most_number ≡ cond small v most_number
+cap_by v true e = let l = ltb-true v most_number e in omega arith
+cap_by v false e = let l = ltb-false v most_number e in omega arith
+
+capped_min : (v : ℕ) → min v most_number ≡ capped v
+unfolding capped
+capped_min v = cap_by v (ltb v most_number) refl
+
+-- the capped value of one digit more
+pub value_next : (w : List ℕ) (i n : ℕ) → i < length w → is_digit (get_or w i 0) ≡ true → n ≡ capped (value_of 10 (take i w))
+    → min (n * 10 + (get_or w i 0 - 48)) most_number ≡ capped (value_of 10 (take (suc i) w))
+value_next w i n h e said =
+    let c = get_or w i 0 in
+    let v = value_of 10 (take i w) in
+    let more : capped (capped v * 10 + digit_value c) ≡ capped (value_of 10 (take (suc i) w)) =
+    capped_more v (digit_value c) ∙ rw (take-suc w i 0 h, value_more 10 0 (take i w) c) refl in
+    capped_min (n * 10 + (c - 48)) ∙ rw (said, ← digit_is c e) more

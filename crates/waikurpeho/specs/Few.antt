@@ -1,6 +1,6 @@
 -- A count of findings, and a file's length, are far below 2^32, so that an answer's two parts do not mix.
 use Rattle.std.specs.Prelude.{◌≡◌, refl, Bool, true, false, cond, ◌&&◌, ◌||◌, List, [], ◌∷◌, ℕ, zero, suc, ◌+◌, ◌*◌, ◌/◌, ◌<◌, ◌≤◌, eqb, ltb, leb, length}
-use Rattle.std.specs.Prelude.{Float}
+use Rattle.std.specs.Prelude.{Float, Result, Ok, Err}
 use Rattle.std.proofs.Math.Bool.{not}
 use Rattle.std.proofs.Common.{le_refl, suc-mul, eqb-true}
 use native.Mathlib.Omega.{arith}
@@ -24,13 +24,14 @@ use Rattle.check_pair.specs.Tolerance.{tolerance_of}
 use Rattle.check_words.specs.Words.{only_if}
 use Rattle.check_list.specs.Finding.{in_range, box_inside, name_words, repeat_words, place_words, verdict_words, mass_words, lost_words, wrong_words}
 use Rattle.check_list.specs.View.{View, around, line_found, verdict_found, pair_found, pairs_found, mass_found, lost_found, wrong_found, findings_of}
-use Rattle.check_packing.specs.declared.Checked.{Checked}
+use Rattle.domain.specs.declared.Refusal.{Refusal}
+use Rattle.domain.specs.declared.Refusal.TheVariants.{Room}
+use Rattle.domain.specs.Refusal.{refused_or, with_room}
 use Rattle.check_packing.specs.Findings.{view_of, findings}
-use Rattle.check_packing.specs.Check.{count_of, checked_of, file_checked}
+use Rattle.check_packing.specs.Check.{count_of, file_refusal, file_count, file_checked}
 use Rattle.file_read.specs.Reading.{sheet_of, refusal_of}
-use Rattle.file_write.specs.declared.Written.{Written}
 use Rattle.file_write.specs.Writing.{file_length, written_of}
-use Rattle.answer_word.specs.Answer.{unit}
+use Rattle.answer_word.specs.Answer.{unit, Fits, fits_with, fits_or, fits_refused}
 
 only_few : (t : Bool) (ws : List ℕ) (b : ℕ) → length ws ≤ b → length (only_if t ws) ≤ b
 only_few true ws b h = h
@@ -123,36 +124,37 @@ module _ (v : View) where
       let u = f.unplaced in
       simp length-append (omega arith)
 
-count_few : (s : Sheet) (cells : List ℕ) → (checked_of s cells).count < unit
-unfolding checked_of count_of findings
-count_few s cells = go (eqb (sheet_refusal s) 0) refl
+count_few : (s : Sheet) → count_of s < unit
+unfolding count_of findings
+count_few s = go (eqb (sheet_refusal s) 0) refl
   where
     go : (t : Bool) → eqb (sheet_refusal s) 0 ≡ t → cond t (length (findings s) / 5) 0 < unit
     go true e = let h = findings_few (view_of s) (accepted s (eqb-true (sheet_refusal s) 0 e)).few_of in omega arith
     go false e = omega arith
 
 -- and so of a file
-pub file_few : (f cells : List ℕ) → (file_checked f cells).count < unit
-unfolding file_checked
-file_few f cells = go (eqb (refusal_of f) 0)
+pub file_few : (f cells : List ℕ) → Fits (file_checked f cells)
+unfolding file_checked file_count
+file_few f cells = fits_with (file_refusal f cells) (file_count f) (file_count f) few few
   where
-    go : (t : Bool) → (cond {A = Checked} t (checked_of (sheet_of f) cells) (record { refused = refusal_of f; count = 0 })).count < unit
-    go true = count_few (sheet_of f) cells
-    go false = omega arith
+    few : file_count f < unit
+    few = go (eqb (refusal_of f) 0)
+      where
+        go : (t : Bool) → cond t (count_of (sheet_of f)) 0 < unit
+        go true = count_few (sheet_of f)
+        go false = omega arith
 
-pub length_few : (s : Sheet) (room : ℕ) → (written_of s room).length < unit
+pub length_few : (s : Sheet) (room : ℕ) → Fits (written_of s room)
 unfolding written_of
-length_few s room = go (eqb (sheet_refusal s) 0) refl (leb (file_length s.many) room)
+length_few s room = go (sheet_refusal s) refl
   where
-    go : (t : Bool) → eqb (sheet_refusal s) 0 ≡ t → (r : Bool)
-        → (cond {A = Written} t (cond r (record { refused = 0; length = file_length s.many }) (record { refused = 6; length = file_length s.many }))
-        (record { refused = sheet_refusal s; length = 0 })).length < unit
-    go true e true = few_bytes (accepted s (eqb-true (sheet_refusal s) 0 e)).few_of
-      where
-        few_bytes : Few s.many → file_length s.many < unit
-        few_bytes f = let k = f.kinds in let l = f.lines in let u = f.unplaced in omega arith
-    go true e false = few_bytes (accepted s (eqb-true (sheet_refusal s) 0 e)).few_of
-      where
-        few_bytes : Few s.many → file_length s.many < unit
-        few_bytes f = let k = f.kinds in let l = f.lines in let u = f.unplaced in omega arith
-    go false e r = omega arith
+    few_bytes : Few s.many → file_length s.many < unit
+    few_bytes f = let k = f.kinds in let l = f.lines in let u = f.unplaced in omega arith
+
+    room_fits : (b : Bool) → file_length s.many < unit → Fits (cond {A = Result ℕ Refusal} b (Ok (file_length s.many)) (Err (Room (file_length s.many))))
+    room_fits true h = h
+    room_fits false h = h
+
+    go : (n : ℕ) → sheet_refusal s ≡ n → Fits (refused_or n (with_room room (file_length s.many) (file_length s.many)))
+    go zero e = fits_or 0 _ (room_fits (leb (file_length s.many) room) (few_bytes (accepted s e).few_of))
+    go (suc n) e = fits_refused n _

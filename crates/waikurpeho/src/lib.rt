@@ -15,8 +15,10 @@ pub fn wk_check(sheet: &[u8], findings: &mut [u64]) -> u64
     ensures { (result ≡ check_answer sheet.now findings.old) ×
         (findings.new ≡ check_cells sheet.now findings.old) }
 {
-    let c = check_packing::check_packing(sheet, findings);
-    answer_word::word_of(c.refused, c.count as u32)
+    match check_packing::check_packing(sheet, findings) {
+        Ok(count) => answer_word::word_of(0, count as u32),
+        Err(refusal) => answer_word::word_of(refusal.number(), refusal.needed() as u32),
+    }
 }
 
 // The plan of an order by extreme points: the length of the planned sheet's file, or 6 and the length needed. The figures are the boxes
@@ -40,10 +42,11 @@ pub fn wk_plan_layers(order: &[u8], consider: u64, sheet: &mut [u8], figures: &m
 pub fn wk_fill(sheet: &[u8], fill: &mut u64) -> u64
     ensures { (result ≡ fill_answer sheet.now) × (fill.new ≡ fill_after sheet.now fill.old) }
 {
-    let f = fill_thousand::fill_of(sheet);
-    if f.refused != 0 {
-        return answer_word::word_of(f.refused, 0);
+    match fill_thousand::fill_of(sheet) {
+        Ok(thousandths) => {
+            *fill = thousandths;
+            answer_word::word_of(0, 0)
+        }
+        Err(refusal) => answer_word::word_of(refusal.number(), 0),
     }
-    *fill = f.fill;
-    answer_word::word_of(0, 0)
 }

@@ -1,5 +1,6 @@
 // The boundary as a static library, for C and Rust: each call is the one of this name in the crate waikurpeho, with the same
 // clauses.
+// Stays: two calls of one shape, as C calls each by its name.
 
 #![tactic(auto)]
 

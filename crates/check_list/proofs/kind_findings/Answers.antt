@@ -15,7 +15,10 @@ returns-then-at-gt-LINE_WORDS c = record { within = λ l. absurd (omega arith); 
 
 pub put_missing-requires : goal.put_missing-requires
 put_missing-requires c =
-    ((few (goal.at.put_missing-requires c).After-fair-many).kinds, omega (arith, c.put_mass-q.ensures.1, c.if-at-gt-LINE_WORDS.false))
+    record {
+      few = (few (goal.at.put_missing-requires c).After-fair-many).kinds;
+      room = omega (arith, c.put_mass-q.ensures.1, c.if-at-gt-LINE_WORDS.false);
+    }
 
 pub returns : goal.returns
 unfolding kinds_in

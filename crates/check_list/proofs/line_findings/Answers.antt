@@ -28,7 +28,7 @@ put_pairs-requires c =
     let e = ruled (goal.at.put_pairs-requires c).After-rule_of-rule in
     let l = rw e at p.put_lines-p.ensures.few in
     let w = wide (goal.at.put_pairs-requires c).After-rule_of-rule in
-    rw e (w.few, (w.which_long, (w.boxes_long, (omega (arith, w.few), refl))))
+    rw e (record { few = w.few; which_long = w.which_long; boxes_long = w.boxes_long; room = omega (arith, w.few); slack = refl })
 
 pub shape_of-out : goal.shape_of-out
 shape_of-out c =

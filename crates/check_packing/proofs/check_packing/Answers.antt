@@ -1,13 +1,13 @@
 -- `check_packing` meets its contract: the file's refusal, or what is found on it.
-use mathlib.Core.Path.{sym, ap, ◌∙◌}
-use Rattle.file_accept.specs.declared.Accepted.{Accepted}
-use Rattle.file_accept.specs.Accept.{taken, refusal_is}
+use Rattle.std.proofs.lemmas.Result.{err_from_is_err_and}
+use Rattle.file_accept.specs.Accept.{taken}
 use Rattle.check_packing.proofs.Answers.{file_refused}
 use Rattle.check_packing.proofs.check_packing.Goals as goal
 
-pub returns-then-a-ne0 : goal.returns-then-a-ne0
-returns-then-a-ne0 c =
-    file_refused _ _ _ (sym (refusal_is _) ∙ sym (ap (λ (v : Accepted). v.refused) c.accept-a.ensures)) c.if-a-ne0.true
+pub returns-in_err-a : goal.returns-in_err-a
+returns-in_err-a c =
+    let p = err_from_is_err_and c.from_residual.result c.from_residual.ensures.1 in
+    rw (p.1, p.2) (file_refused _ _ _ _ c.in_err-a.ensures)
 
 pub list-requires : goal.list-requires
-list-requires c = taken _ _ c.accept-a.ensures c.if-a-ne0.false
+list-requires c = taken _ _ c.in_ok-a.ensures

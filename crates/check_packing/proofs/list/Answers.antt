@@ -9,12 +9,12 @@ pub room-requires : goal.room-requires
 room-requires c = let t = c.requires in (few_kinds _ _ t, (few_lines _ _ t, few_unplaced _ _ t))
 
 pub shape_of-out-then-room-out : goal.shape_of-out-then-room-out
-shape_of-out-then-room-out c = wrote_length c.put_all-r.ensures.words
+shape_of-out-then-room-out c = wrote_length c.put_all.ensures.words
 
 pub returns-then-room-out : goal.returns-then-room-out
 returns-then-room-out c =
     let t = c.requires in
-    let w = c.put_all-r.ensures in
+    let w = c.put_all.ensures in
     file_checked_lem t.sound (answer_listed _ _ (sheet_sound _ t.sound) w.words (omega (arith, w.few, c.room.ensures, c.if-room-out.true)) w.words)
 
 pub returns-then-n-eq0 : goal.returns-then-n-eq0
@@ -28,9 +28,9 @@ returns-then-out-n c =
     file_checked_lem t.sound (answer_room _ _ (sheet_sound _ t.sound) c.put_all-n.ensures.words c.if-out-n.true)
 
 pub shape_of-out : goal.shape_of-out
-shape_of-out c = wrote_length c.put_all.ensures.words
+shape_of-out c = wrote_length c.put_all-2.ensures.words
 
 pub returns : goal.returns
 returns c =
     let t = c.requires in
-    file_checked_lem t.sound (answer_listed _ _ (sheet_sound _ t.sound) c.put_all-n.ensures.words c.if-out-n.false c.put_all.ensures.words)
+    file_checked_lem t.sound (answer_listed _ _ (sheet_sound _ t.sound) c.put_all-n.ensures.words c.if-out-n.false c.put_all-2.ensures.words)

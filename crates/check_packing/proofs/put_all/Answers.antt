@@ -16,7 +16,10 @@ use Rattle.check_packing.proofs.put_all.Goals.{After-put_lines-l}
 pub put_lines-l-requires : goal.put_lines-l-requires
 put_lines-l-requires c =
     let t = c.requires in
-    ((t, (ids_read _ _ t c.kind_columns-all.ensures.1, (many_read _ _ t c.kind_columns-all.ensures.2, refl))), c.kind_columns-all.ensures.0)
+    record {
+      ready = (t, (ids_read _ _ t c.kind_columns-all.ensures.1, (many_read _ _ t c.kind_columns-all.ensures.2, refl)));
+      all = c.kind_columns-all.ensures.0;
+    }
 
 -- the words of the lines
 lines_few : (c : After-put_lines-l)

@@ -2,7 +2,6 @@
 use mathlib.Core.Path.{sym, ap, ◌∙◌}
 use Rattle.lists.specs.Table.{filled_length}
 use Rattle.file_read.specs.Records.{container_is}
-use Rattle.check_words.specs.Corners.{filled_long}
 use Rattle.check_words.specs.Writes.{wrote_length}
 use Rattle.check_packing.specs.Lines.{mass_below}
 use Rattle.check_packing.proofs.Read.{kinds_are, lines_are}
@@ -48,4 +47,4 @@ pub shape_of-again : goal.shape_of-again
 shape_of-again c = rw c.mark_columns.ensures.0 (filled_length _ _ _)
 
 pub shape_of-boxes : goal.shape_of-boxes
-shape_of-boxes c = rw c.line_columns-mass.ensures.2 (filled_long _ _ _)
+shape_of-boxes c = rw c.line_columns-mass.ensures.2 (filled_length _ _ _)

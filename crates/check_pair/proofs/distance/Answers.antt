@@ -1,11 +1,11 @@
--- `check_pair::distance` meets its contract: the calls are the definition's own.
+-- `distance` meets its contract: the calls are the definition's own.
 use Rattle.check_pair.specs.Pair.{distance_of}
 use Rattle.check_pair.proofs.distance.Goals as goal
 
-pub returns-then-q-eq0 : goal.returns-then-q-eq0
+pub returns-in-Some : goal.returns-in-Some
 unfolding distance_of
-returns-then-q-eq0 c = cc
+returns-in-Some c = cc
 
-pub returns : goal.returns
+pub returns-in-None : goal.returns-in-None
 unfolding distance_of
-returns c = cc
+returns-in-None c = cc

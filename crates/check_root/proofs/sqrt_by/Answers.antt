@@ -27,7 +27,10 @@ returns-then-x-3 c = at_negative _ c.if-x-3.true
 pub of_pattern-requires : goal.of_pattern-requires
 of_pattern-requires c =
     let d = c.before in
-    (subst (λ (b : ℕ). 0 < b) (sym d.bits_of-b.ensures) (pattern_pos _ (held (goal.at.of_pattern-requires c).After-bits_of-b) d.if-x-2.false), c.if-b-lt9218868437227405312.true)
+    record {
+      some = subst (λ (b : ℕ). 0 < b) (sym d.bits_of-b.ensures) (pattern_pos _ (held (goal.at.of_pattern-requires c).After-bits_of-b) d.if-x-2.false);
+      finite = c.if-b-lt9218868437227405312.true;
+    }
 
 pub returns-then-b-lt9218868437227405312 : goal.returns-then-b-lt9218868437227405312
 returns-then-b-lt9218868437227405312 c =

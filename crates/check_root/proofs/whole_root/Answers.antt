@@ -1,21 +1,16 @@
--- `check_root::whole_root` meets its contract: each turn takes the next two digits of the number.
-use native.Mathlib.Omega.{arith}
+-- `whole_root` meets its contract: each turn takes the next two digits of the number.
+use Rattle.std.proofs.Common.{◌≡◌, ◌-◌, ◌*◌, ◌+◌, arith}
 use Rattle.check_root.specs.Powers.{small_root, next_digits, no_digits}
 use Rattle.check_root.proofs.whole_root.Goals as goal
 
-pub step-p-requires : goal.step-p-requires
-step-p-requires c =
-    let i = c.loop-i.invariant in
-    let q = small_root _ _ _ _ i.0 c.requires in
-    (i.1.0, (omega arith, omega arith))
+pub step-p-requires-clause-small : goal.step-p-requires-clause-small
+step-p-requires-clause-small c = let q = small_root _ _ _ _ c.loop-i.invariant.value c.requires in omega arith
 
 pub loop-i-preserved : goal.loop-i-preserved
 loop-i-preserved c =
-    let i = c.loop-i.invariant in
-    let k = c.step-p.ensures in
-    (next_digits _ _ _ _ (omega arith) i.0 k.0, (k.1.0, (omega arith, omega arith)))
+    let n : 54 - 2 * (c.loop-i.i + 1) ≡ 52 - 2 * c.loop-i.i = omega arith in
+    let e = next_digits _ _ c.args.m (54 - 2 * c.loop-i.i) (52 - 2 * c.loop-i.i) (omega arith) c.loop-i.invariant.value c.step-p.ensures.value in
+    record { value = rw n e; left = c.step-p.result.left }
 
 pub returns : goal.returns
-returns c =
-    let i = c.loop-i.invariant in
-    (no_digits _ _ _ c.loop-i-test.false i.0, i.1.0)
+returns c = no_digits _ _ _ (omega arith) c.loop-i.invariant.value

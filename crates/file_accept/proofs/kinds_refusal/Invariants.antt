@@ -1,6 +1,5 @@
--- `accept::kinds_refusal` meets its contract: after k turns it has the ids, the first refusal and the total of the first k kinds.
-use mathlib.Core.Path.{◌≡◌}
-use Prim.Native.Nat.{◌≤◌, ◌-◌, ◌*◌}
+-- `accept::kinds_refusal` meets its contract: no kind passed is refused, and ids and total are those of the kinds passed.
+use Rattle.std.proofs.Common.{◌≡◌, ◌≤◌, ◌*◌}
 use Rattle.lists.specs.Below.{sum_below}
 use Rattle.domain.specs.Refusals.{first_below}
 use Rattle.sheet.specs.Sheets.{ids_below, kind_fault_in, quantity_of}
@@ -9,7 +8,9 @@ use Rattle.file_accept.proofs.kinds_refusal.Given as goal
 
 abbrev pub invariant-loop-k : goal.invariant-loop-k
 invariant-loop-k l =
-    (l.k ≤ l.n) × (l.t ≤ l.k * 4294967295) × (l.ids ≡ ids_below (sheet_of l.f).kinds l.k) × (l.r ≡ first_below (kind_fault_in (sheet_of l.f).kinds) l.k) × (l.t ≡ sum_below (quantity_of (sheet_of l.f).kinds) l.k)
-
-abbrev pub decreases-loop-k : goal.decreases-loop-k
-decreases-loop-k l = l.n - l.k
+    record {
+      small : l.total ≤ l.k * 4294967295;
+      ids_are : l.ids ≡ ids_below (sheet_of l.f).kinds l.k;
+      none : first_below (kind_fault_in (sheet_of l.f).kinds) l.k ≡ 0;
+      total_is : l.total ≡ sum_below (quantity_of (sheet_of l.f).kinds) l.k;
+    }

@@ -1,9 +1,7 @@
--- `u32_of` meets its contract: the bytes by their weights.
-use Rattle.file_bytes.specs.Words.{u32_is}
+-- `u32_of` meets its contract: the library reads the four bytes.
+use Rattle.std.proofs.Common.{◌∙◌}
+use Rattle.file_bytes.specs.Words.{u32_le}
 use Rattle.file_bytes.proofs.u32_of.Goals as goal
 
 pub returns : goal.returns
-returns c =
-    let d = c.before in
-    let b = d.before in
-    rw (c.wide-w.ensures.0, d.wide-z.ensures.0, b.wide-y.ensures.0, b.wide-x.ensures.0) (u32_is _ 0)
+returns c = c.from_le_bytes.ensures ∙ u32_le _

@@ -1,62 +1,46 @@
 -- `read_sheet` meets its contract: shape, counts, then what the sheet is refused for.
-use mathlib.Core.Path.{◌≡◌, sym, ◌∙◌}
-use mathlib.Core.Bool.{true, false}
-use mathlib.Core.List.{List}
-use Prim.Native.Nat.{ℕ}
-use native.Mathlib.Omega.{arith}
-use borrow.Author.Tests.{ne_eqb, not-true, not-false}
-use Rattle.sheet.specs.declared.Sheet.{Sheet}
-use Rattle.sheet.specs.Sheets.{empty_sheet}
-use Rattle.file_read.specs.Reading.{sheet_of, refusal_of, read_of}
-use Rattle.file_read.specs.Refusal.{shape_refused, sheet_decides, count_refused}
-use Rattle.file_read.specs.Records.{Readable, Right, right_says, wrong_says}
-use Rattle.file_read.specs.declared.Reading.{Reading}
+use Rattle.std.proofs.Common.{◌∙◌, sym}
+use Rattle.std.proofs.lemmas.Result.{err_from_is_err_and}
+use Rattle.domain.specs.Refusal.{refused_as, no_refusal, no_number}
+use Rattle.file_read.specs.Reading.{read_of}
+use Rattle.file_read.specs.Refusal.{sheet_decides, asked_wrong, asked_over, asked_few}
+use Rattle.file_read.specs.Records.{Right, right_says}
 use Rattle.file_read.proofs.read_sheet.Goals as goal
-use Rattle.file_read.proofs.read_sheet.Goals.{After-sections_of-sections, After-over_count, After-sheet_refusal-refused}
+use Rattle.file_read.proofs.read_sheet.Goals.{In_ok-sections}
 
--- a refused file reads as the empty sheet, another as its own
-refused : (f : List ℕ) (r : ℕ) (s : Sheet) → s ≡ empty_sheet → refusal_of f ≡ r → (r ≡ 0 → ⊥) → ◌≡◌ {A = Reading} (record { refused = r; sheet = s }) (read_of f)
+right : (c : In_ok-sections) → Right c.args.f.now c.in_ok-sections.sections
+right c = right_says _ _ (sym c.in_ok-sections.ensures.ok_part ∙ c.sections_of.ensures)
+
+pub returns-in_err-sections : goal.returns-in_err-sections
 unfolding read_of
-refused f r s es er n = rw (es, er, ne_eqb r 0 n)
+returns-in_err-sections c =
+    let p = err_from_is_err_and c.from_residual.result c.from_residual.ensures.1 in
+    rw (p.1, p.2) (asked_wrong _ _ _ _ c.sections_of.ensures c.in_err-sections.ensures.value)
 
-taken : (f : List ℕ) (s : Sheet) → s ≡ sheet_of f → refusal_of f ≡ 0 → ◌≡◌ {A = Reading} (record { refused = 0; sheet = s }) (read_of f)
+pub returns-in_err-refuse : goal.returns-in_err-refuse
 unfolding read_of
-taken f s es er = rw (es, er)
-
-right : (c : After-sections_of-sections) → c.sections_of-sections.result.right ≡ true → Right c.args.f.now c.sections_of-sections.result
-right c = right_says _ _ c.sections_of-sections.ensures
-
-can_read : (c : After-over_count) → c.sections_of-sections.result.right ≡ true → c.over_count.result ≡ false → Readable c.args.f.now
-can_read c h o =
-    let r = right_says _ _ c.sections_of-sections.ensures h in
-    record { shape = r.shape; counts_right = rw r.many_are at (sym c.over_count.ensures ∙ o) }
-
--- the sheet's refusal is the file's
-decided : (c : After-sheet_refusal-refused)
-    → refusal_of c.args.f.now ≡ c.sheet_refusal-refused.result
-decided c =
-    let r = right_says _ _ c.sections_of-sections.ensures (not-false c.sections_of-sections.result.right c.if-not-sections.false) in
-    sheet_decides _ r.shape ∙ sym (rw c.sheet_of-s.ensures at c.sheet_refusal-refused.ensures)
-
-pub returns-then-not-sections : goal.returns-then-not-sections
-returns-then-not-sections c =
-    refused _ 1 _ c.empty_sheet-none.ensures
-    (shape_refused _ (wrong_says _ _ c.sections_of-sections.ensures (not-true c.sections_of-sections.result.right c.if-not-sections.true))) (λ e. omega arith)
-
-pub returns-then-over_count : goal.returns-then-over_count
-returns-then-over_count c =
-    let r = right (goal.at.returns-then-over_count c).After-sections_of-sections (not-false c.sections_of-sections.result.right c.if-not-sections.false) in
-    refused _ 2 _ c.empty_sheet-none.ensures
-    (sheet_decides _ r.shape ∙ count_refused _ (rw r.many_are at (sym c.over_count.ensures ∙ c.if-over_count.true))) (λ e. omega arith)
+returns-in_err-refuse c =
+    let p = err_from_is_err_and c.from_residual-in_err-refuse.result c.from_residual-in_err-refuse.ensures.1 in
+    rw (p.1, p.2)
+    (asked_over _ c.in_ok-sections.sections _ _ _ (right (goal.at.returns-in_err-refuse c).In_ok-sections) c.over_count.ensures c.in_err-refuse.ensures)
 
 pub sheet_of-s-requires : goal.sheet_of-s-requires
 sheet_of-s-requires c =
-    let r = right (goal.at.sheet_of-s-requires c).After-sections_of-sections (not-false c.sections_of-sections.result.right c.if-not-sections.false) in
-    (can_read (goal.at.sheet_of-s-requires c).After-over_count (not-false c.sections_of-sections.result.right c.if-not-sections.false) c.if-over_count.false, (r.many_are, (r.start_is, r.end_is)))
+    let r = right (goal.at.sheet_of-s-requires c).In_ok-sections in
+    let k = asked_few _ c.in_ok-sections.sections _ r c.over_count.ensures c.in_ok-refuse.ensures in
+    (k, (r.many_are, (r.start_is, r.end_is)))
 
-pub returns-then-refused-eq0 : goal.returns-then-refused-eq0
-returns-then-refused-eq0 c = taken _ _ c.sheet_of-s.ensures (decided (goal.at.returns-then-refused-eq0 c).After-sheet_refusal-refused ∙ c.if-refused-eq0.true)
+pub returns-in_err-sheet_refusal : goal.returns-in_err-sheet_refusal
+unfolding read_of
+returns-in_err-sheet_refusal c =
+    let p = err_from_is_err_and c.from_residual-in_err-sheet_refusal.result c.from_residual-in_err-sheet_refusal.ensures.1 in
+    let r = right (goal.at.returns-in_err-sheet_refusal c).In_ok-sections in
+    rw (p.1, p.2)
+    (rw (sheet_decides c.args.f.now r.shape) (refused_as _ 0 tt _ _ (rw c.sheet_of-s.ensures at c.in_err-sheet_refusal.ensures)))
 
 pub returns : goal.returns
+unfolding read_of
 returns c =
-    refused _ _ _ c.empty_sheet-none.ensures (decided (goal.at.returns c).After-sheet_refusal-refused) c.if-refused-eq0.false
+    let r = right (goal.at.returns c).In_ok-sections in
+    rw c.sheet_of-s.ensures
+    (rw (sheet_decides c.args.f.now r.shape) (no_number _ 0 _ (no_refusal _ 0 tt tt (rw c.sheet_of-s.ensures at c.in_ok-sheet_refusal.ensures))))

@@ -6,16 +6,16 @@ use Rattle.fill_thousand.proofs.line_volume.Goals as goal
 
 pub loop-k-init : goal.loop-k-init
 unfolding sum_below
-loop-k-init c = (omega arith, omega arith, refl)
+loop-k-init c = record { most = omega arith; sum_is = refl }
 
 pub overflow_add-t : goal.overflow_add-t
-overflow_add-t c = omega (arith, c.requires.1 c.loop-k.k (omega arith))
+overflow_add-t c = omega (arith, c.requires.small c.loop-k.k (omega arith), c.volume_if-t.ensures.most)
 
 pub loop-k-preserved : goal.loop-k-preserved
 unfolding sum_below volume_if
 loop-k-preserved c =
-    let b = c.requires.1 c.loop-k.k (omega arith) in
-    (omega arith, omega arith, rw (add-one, ← c.loop-k.invariant.2) (rw c.volume_if-t.ensures.0))
+    let b = c.requires.small c.loop-k.k (omega arith) in
+    record { most = omega (arith, c.volume_if-t.ensures.most); sum_is = rw (add-one, ← c.loop-k.invariant.sum_is) (rw c.volume_if-t.ensures.value) }
 
 pub returns : goal.returns
-returns c = let e : c.loop-k.k ≡ c.args.m = omega arith in rw e at c.loop-k.invariant.2
+returns c = let e : c.loop-k.k ≡ c.args.m = omega arith in rw e at c.loop-k.invariant.sum_is

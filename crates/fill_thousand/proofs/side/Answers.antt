@@ -8,8 +8,8 @@ whole_or_none-requires c = c.if-v.true
 
 pub returns-then-v : goal.returns-then-v
 unfolding side_of
-returns-then-v c = (rw c.if-v.true c.whole_or_none.ensures.0, c.whole_or_none.ensures.1)
+returns-then-v c = record { value = rw c.if-v.true c.whole_or_none.ensures.value; most = c.whole_or_none.ensures.most }
 
 pub returns : goal.returns
 unfolding side_of
-returns c = (rw c.if-v.false, zero-le)
+returns c = record { value = rw c.if-v.false; most = zero-le }

@@ -10,14 +10,14 @@ volume : (w d h : ℕ) → w ≤ 10000 → d ≤ 10000 → h ≤ 10000 → w * d
 volume w d h p q r = mul-le-mul (area w d p q) r
 
 pub overflow_mul-result : goal.overflow_mul-result
-overflow_mul-result c = omega (arith, area _ _ c.side-w.ensures.1 c.side-d.ensures.1)
+overflow_mul-result c = omega (arith, area _ _ c.side-w.ensures.most c.side-d.ensures.most)
 
 pub overflow_mul-result-2 : goal.overflow_mul-result-2
-overflow_mul-result-2 c = omega (arith, volume _ _ _ c.side-w.ensures.1 c.side-d.ensures.1 c.side-h.ensures.1)
+overflow_mul-result-2 c = omega (arith, volume _ _ _ c.side-w.ensures.most c.side-d.ensures.most c.side-h.ensures.most)
 
 pub returns : goal.returns
 unfolding solid_of
-returns c = (
-  rw (c.side-w.ensures.0, c.side-d.ensures.0, c.side-h.ensures.0),
-  volume _ _ _ c.side-w.ensures.1 c.side-d.ensures.1 c.side-h.ensures.1,
-)
+returns c = record {
+  value = rw (c.side-w.ensures.value, c.side-d.ensures.value, c.side-h.ensures.value);
+  most = volume _ _ _ c.side-w.ensures.most c.side-d.ensures.most c.side-h.ensures.most;
+}

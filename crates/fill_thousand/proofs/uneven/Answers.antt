@@ -4,4 +4,4 @@ use Rattle.fill_thousand.proofs.uneven.Goals as goal
 
 pub returns : goal.returns
 unfolding uneven
-returns c = rw (c.side.ensures.0, c.side-2.ensures.0, c.side-3.ensures.0)
+returns c = rw (c.side.ensures.value, c.side-2.ensures.value, c.side-3.ensures.value)

@@ -11,10 +11,10 @@ use Rattle.fill_thousand.proofs.volume_of.Goals.{After-line_volume-t}
 
 pub loop-i-init : goal.loop-i-init
 unfolding sum_below
-loop-i-init c = (omega arith, omega arith, refl)
+loop-i-init c = record { most = omega arith; sum_is = refl }
 
 pub line_volume-t-requires : goal.line_volume-t-requires
-line_volume-t-requires c = let t = c.requires.table in (t.few, small _ _ _ _ t)
+line_volume-t-requires c = let t = c.requires.table in record { few = t.few; small = small _ _ _ _ t }
 
 -- the volume of line i, which is at most one kind's
 volume_is : (c : After-line_volume-t)
@@ -41,10 +41,10 @@ unfolding sum_below line_volume
 loop-i-preserved c =
     let w = (goal.at.loop-i-preserved c).After-line_volume-t in
     let h = small_line w in
-    (omega arith, omega arith, rw (add-one, ← c.loop-i.invariant.2) (rw (volume_is w)))
+    record { most = omega arith; sum_is = rw (add-one, ← c.loop-i.invariant.sum_is) (rw (volume_is w)) }
 
 pub returns : goal.returns
 returns c =
     let b = bounds _ c.requires.can_read in
     let e : c.loop-i.i ≡ c.args.n = omega arith in
-    (rw e at c.loop-i.invariant.2, omega arith)
+    record { value = rw e at c.loop-i.invariant.sum_is; most = omega arith }

@@ -19,12 +19,13 @@ truncating_f64_to_u64-n-requires c =
 pub returns-then-nearest_u64_to_f64-v : goal.returns-then-nearest_u64_to_f64-v
 returns-then-nearest_u64_to_f64-v c =
     let v = c.args.v in
-    let h = holds (le v longest) (and_right (le shortest v) (le v longest) c.requires) in (
-      whole_kept v _ _ c.truncating_f64_to_u64-n.ensures c.nearest_u64_to_f64.ensures c.if-nearest_u64_to_f64-v.true,
-      subst (λ (n : ℕ). n ≤ 10000) (sym c.truncating_f64_to_u64-n.ensures) (cut_most v h),
-    )
+    let h = holds (le v longest) (and_right (le shortest v) (le v longest) c.requires) in
+    record {
+      value = whole_kept v _ _ c.truncating_f64_to_u64-n.ensures c.nearest_u64_to_f64.ensures c.if-nearest_u64_to_f64-v.true;
+      most = subst (λ (n : ℕ). n ≤ 10000) (sym c.truncating_f64_to_u64-n.ensures) (cut_most v h);
+    }
 
 pub returns : goal.returns
 returns c =
     let v = c.args.v in
-    (whole_lost v _ _ c.truncating_f64_to_u64-n.ensures c.nearest_u64_to_f64.ensures c.if-nearest_u64_to_f64-v.false, zero-le)
+    record { value = whole_lost v _ _ c.truncating_f64_to_u64-n.ensures c.nearest_u64_to_f64.ensures c.if-nearest_u64_to_f64-v.false; most = zero-le }

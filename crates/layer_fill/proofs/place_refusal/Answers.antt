@@ -1,7 +1,22 @@
--- `layer_fill::place_refusal` meets its contract, by what its callees ensure.
+-- `place_refusal` meets its contract: the three refusals in their order.
+use Rattle.std.proofs.Common.{◌∙◌}
+use Rattle.std.proofs.lemmas.Result.{err_from_is_err_and}
+use Rattle.domain.specs.Refusal.{first_refuses, first_passes}
 use Rattle.layer_fill.specs.Fill.{place_refusal}
 use Rattle.layer_fill.proofs.place_refusal.Goals as goal
 
+pub returns-in_err-refuse : goal.returns-in_err-refuse
+unfolding place_refusal
+returns-in_err-refuse c =
+    let p = err_from_is_err_and c.from_residual.result c.from_residual.ensures.1 in
+    rw (p.1, p.2) (first_refuses _ _ 0 tt tt _ c.in_err-refuse.ensures)
+
+pub returns-in_err-kind_fault : goal.returns-in_err-kind_fault
+unfolding place_refusal
+returns-in_err-kind_fault c =
+    let p = err_from_is_err_and c.from_residual-in_err-kind_fault.result c.from_residual-in_err-kind_fault.ensures.1 in
+    rw (p.1, p.2) (first_refuses _ _ 0 tt tt _ c.in_err-kind_fault.ensures ∙ first_passes _ _ 0 tt tt tt c.in_ok-refuse.ensures)
+
 pub returns : goal.returns
 unfolding place_refusal
-returns c = rw (c.or_else-2.ensures, c.or_else.ensures, c.given-full.ensures, c.kind_fault-fault.ensures, c.given-state.ensures)
+returns c = c.refuse-2.ensures ∙ first_passes _ _ 0 tt tt tt c.in_ok-kind_fault.ensures ∙ first_passes _ _ 0 tt tt tt c.in_ok-refuse.ensures

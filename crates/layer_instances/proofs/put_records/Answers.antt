@@ -17,12 +17,12 @@ use Rattle.layer_instances.proofs.put_records.Goals.{After-kind_in-kind}
 
 pub loop-t-init : goal.loop-t-init
 unfolding turn_of
-loop-t-init c = (omega arith, refl, refl, sym (wrote_none _ _ _))
+loop-t-init c = (refl, refl, sym (wrote_none _ _ _))
 
 -- the kind of the turn's box is one of the file's, and what is read there is the sheet's
 within : (c : After-kind_in-kind) → c.loop-t.u.kind < (counts_of c.args.f.now).kinds
 within c =
-    rw c.loop-t.invariant.2 (c.requires.0.kind_within c.loop-t.t (omega arith))
+    rw c.loop-t.invariant.1 (c.requires.0.kind_within c.loop-t.t (omega arith))
 
 kind_read : (c : After-kind_in-kind)
     → c.kind_in-kind.result ≡ kind_at (sheet_of c.args.f.now) c.loop-t.u.kind
@@ -50,14 +50,13 @@ loop-t-preserved c =
     let r = kind_read (goal.at.loop-t-preserved c).After-kind_in-kind in
     let e : c.put_record.new.out ≡ wrote (record_words kinds) 3 (suc t) c.args.out.now =
     c.put_record.ensures
-    ∙ rw (c.allowed_orientations-orientations.ensures, r, c.loop-t.invariant.2, c.loop-t.invariant.3)
+    ∙ rw (c.allowed_orientations-orientations.ensures, r, c.loop-t.invariant.1, c.loop-t.invariant.2)
     (wrote_more (record_words kinds) 3 (three kinds) t c.args.out.now (omega arith)) in
     let g = wrote_length (record_words kinds) 3 (three kinds) (suc t) c.args.out.now (omega arith) in (
-      omega arith,
       rw e g,
-      c.next_box-u.ensures ∙ next_box_lem _ _ (omega arith) ∙ rw (add-one, r, c.loop-t.invariant.2),
+      c.next_box-u.ensures ∙ next_box_lem _ _ (omega arith) ∙ rw (add-one, r, c.loop-t.invariant.1),
       rw add-one e,
     )
 
 pub returns : goal.returns
-returns c = let e : c.loop-t.t ≡ c.args.n = omega arith in rw e at c.loop-t.invariant.3
+returns c = let e : c.loop-t.t ≡ c.args.n = omega arith in rw e at c.loop-t.invariant.2

@@ -1,5 +1,4 @@
 -- `put_records` meets its contract: each turn stores one record behind the others, and goes on to the next box.
-use Prim.Native.Nat.{◌≤◌, ◌-◌}
 use mathlib.Core.Path.{◌≡◌}
 use lib.ListN.{length}
 use Rattle.file_read.specs.Reading.{sheet_of}
@@ -10,7 +9,4 @@ use Rattle.layer_instances.proofs.put_records.Given as goal
 
 abbrev pub invariant-loop-t : goal.invariant-loop-t
 invariant-loop-t l =
-    (l.t ≤ l.n) × (length l.out ≡ length l.initial.out) × (l.u ≡ turn_of (sheet_of l.f).kinds l.t) × (l.out ≡ wrote (record_words (sheet_of l.f).kinds) 3 l.t l.initial.out)
-
-abbrev pub decreases-loop-t : goal.decreases-loop-t
-decreases-loop-t l = l.n - l.t
+    (length l.out ≡ length l.initial.out) × (l.u ≡ turn_of (sheet_of l.f).kinds l.t) × (l.out ≡ wrote (record_words (sheet_of l.f).kinds) 3 l.t l.initial.out)

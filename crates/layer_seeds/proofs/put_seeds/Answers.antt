@@ -13,7 +13,7 @@ use Rattle.layer_seeds.proofs.put_seeds.Goals.{In-loop-j}
 
 pub loop-j-init : goal.loop-j-init
 unfolding filled
-loop-j-init c = (omega arith, refl, refl)
+loop-j-init c = (refl, refl)
 
 -- the kind that the record names is one of the file's
 stored : (c : In-loop-j)
@@ -38,13 +38,12 @@ unfolding filled seed_at
 loop-j-preserved c =
     let e = c.kind_in-kind.ensures ∙ kind_is _ _ c.requires.can_read (stored (goal.at.loop-j-preserved c).In-loop-j) in
     let n = c.requires.lines_are in (
-      omega arith,
-      simp length-set c.loop-j.invariant.1,
-      rw (add-one, ← c.loop-j.invariant.2) (rw c.seed_of.ensures (rw (e, n, many_is))),
+      simp length-set c.loop-j.invariant.0,
+      rw (add-one, ← c.loop-j.invariant.1) (rw c.seed_of.ensures (rw (e, n, many_is))),
     )
 
 pub returns : goal.returns
-returns c = let e : c.loop-j.j ≡ c.args.n = omega arith in rw e at c.loop-j.invariant.2
+returns c = let e : c.loop-j.j ≡ c.args.n = omega arith in rw e at c.loop-j.invariant.1
 
 pub overflow_mul-k : goal.overflow_mul-k
 overflow_mul-k c = let p = c.requires in omega arith

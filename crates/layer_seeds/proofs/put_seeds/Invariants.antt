@@ -1,5 +1,4 @@
 -- `put_seeds` meets its contract: after j turns the first j cells have their seeds.
-use Prim.Native.Nat.{◌≤◌, ◌-◌}
 use mathlib.Core.Path.{◌≡◌}
 use lib.ListN.{length}
 use Rattle.lists.specs.Table.{filled}
@@ -9,7 +8,4 @@ use Rattle.layer_seeds.proofs.put_seeds.Given as goal
 
 abbrev pub invariant-loop-j : goal.invariant-loop-j
 invariant-loop-j l =
-    (l.j ≤ l.n) × (length l.out ≡ length l.initial.out) × (l.out ≡ filled l.initial.out (seed_at (sheet_of l.f) l.records) l.j)
-
-abbrev pub decreases-loop-j : goal.decreases-loop-j
-decreases-loop-j l = l.n - l.j
+    (length l.out ≡ length l.initial.out) × (l.out ≡ filled l.initial.out (seed_at (sheet_of l.f) l.records) l.j)

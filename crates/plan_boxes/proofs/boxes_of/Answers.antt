@@ -13,16 +13,16 @@ returns-then-m-gt-MOST_KINDS c = rw (lt-ltb _ _ c.if-m-gt-MOST_KINDS.true)
 
 pub loop-k-init : goal.loop-k-init
 unfolding sum_below
-loop-k-init c = (omega arith, omega arith, refl)
+loop-k-init c = (omega arith, refl)
 
 pub loop-k-preserved : goal.loop-k-preserved
 unfolding sum_below quantity_from
 loop-k-preserved c =
     let e = c.kind_in-kind.ensures in
-    (omega arith, omega arith, rw (add-one, ← c.loop-k.invariant.2) (rw c.wide-t.ensures.0 (rw e)))
+    (omega arith, rw (add-one, ← c.loop-k.invariant.1) (rw c.from-t.ensures (rw e)))
 
 pub returns : goal.returns
 unfolding boxes_from
 returns c =
     let e : c.loop-k.k ≡ c.args.m = omega arith in
-    rw (le-ltb _ _ c.if-m-gt-MOST_KINDS.false) (rw e at c.loop-k.invariant.2)
+    rw (le-ltb _ _ c.if-m-gt-MOST_KINDS.false) (rw e at c.loop-k.invariant.1)

@@ -8,10 +8,10 @@ pub returns-then-u-ge-MOST_KINDS : goal.returns-then-u-ge-MOST_KINDS
 unfolding next_box
 returns-then-u-ge-MOST_KINDS c = rw (le-ltb _ _ c.if-u-ge-MOST_KINDS.true)
 
-pub returns-then-u-quantity : goal.returns-then-u-quantity
+pub returns-then-from : goal.returns-then-from
 unfolding next_box next_turn
-returns-then-u-quantity c = rw (lt-ltb _ _ c.if-u-ge-MOST_KINDS.false, lt-ltb _ _ c.if-u-quantity.true)
+returns-then-from c = rw (lt-ltb _ _ c.if-u-ge-MOST_KINDS.false, lt-ltb _ _ (rw (c.from.ensures, c.from-2.ensures) at c.if-from.true))
 
 pub returns : goal.returns
 unfolding next_box next_turn
-returns c = rw (lt-ltb _ _ c.if-u-ge-MOST_KINDS.false, le-ltb _ _ c.if-u-quantity.false)
+returns c = rw (lt-ltb _ _ c.if-u-ge-MOST_KINDS.false, le-ltb _ _ (rw (c.from.ensures, c.from-2.ensures) at c.if-from.false))

@@ -1,47 +1,29 @@
--- `plan_file::write_laid` meets its contract: each return is the definition's, by what the calls before it ensure.
-use mathlib.Core.Path.{◌∙◌}
-use Prim.Native.Nat.{◌<◌}
-use native.Mathlib.Omega.{arith}
-use borrow.Author.Tests.{ne_eqb}
-use Rattle.answer_word.specs.Answer.{unit}
-use Rattle.plan_file.specs.Laid.{laid_answer, laid_bytes, laid_figures, written_few, laid_refused, laid_written_lem}
+-- `plan_file::write_laid` meets its contract: the length or the refusal in one word, and the figures where the file is written.
+use Rattle.std.proofs.Common.{arith}
+use Rattle.plan_file.specs.Laid.{length_fits, needed_fits, laid_told, laid_refused}
 use Rattle.plan_file.proofs.write_laid.Goals as goal
-use Rattle.plan_file.proofs.write_laid.Goals.{After-write_plan-w}
 
-pub returns-then-told-ne0 : goal.returns-then-told-ne0
-unfolding laid_answer laid_bytes laid_figures
-returns-then-told-ne0 c =
-    let t = ne_eqb _ _ c.if-told-ne0.true in
-    record { answer_is = c.word_of.ensures ∙ rw t; bytes_are = rw t; figures_are = rw t }
+pub overflow_cast-length : goal.overflow_cast-length
+overflow_cast-length c =
+    let a = c.args in
+    let h = length_fits a.order.now a.told a.lines.now a.sheet.now _ _ c.in-Ok.length c.write_lines.ensures c.in-Ok.is in
+    record { fits = omega arith }
 
--- a length is told in half a word
-short : (c : After-write_plan-w) → c.write_plan-w.result.length < unit
-short c = rw c.write_plan-w.ensures.answer (written_few _ _ _ _)
+pub overflow_cast-needed : goal.overflow_cast-needed
+overflow_cast-needed c =
+    let a = c.args in
+    let h = needed_fits a.order.now a.told a.lines.now a.sheet.now _ _ c.in-Err.refusal c.write_lines.ensures c.in-Err.is in
+    let e = c.needed.ensures in
+    record { fits = omega arith }
 
-pub overflow_cast-w : goal.overflow_cast-w
-overflow_cast-w c = let h = short (goal.at.overflow_cast-w c).After-write_plan-w in omega (arith, h)
+pub returns-in-Ok : goal.returns-in-Ok
+returns-in-Ok c =
+    let a = c.args in
+    rw (c.word_of.ensures, c.bits_of.ensures)
+    (laid_told a.order.now a.told a.lines.now a.sheet.now _ _ a.figures.now c.in-Ok.length c.write_lines.ensures c.in-Ok.is)
 
-pub returns-then-w-ne0 : goal.returns-then-w-ne0
-returns-then-w-ne0 c =
-    laid_refused _ _ _ _ _ c.sections_of-sections.result
-    c.left_in-left.result
-    c.write_plan-w.result _ _
-    c.if-told-ne0.false
-    c.sections_of-sections.ensures
-    c.left_in-left.ensures
-    c.write_plan-w.ensures
-    c.if-w-ne0.true c.word_of-then-w-ne0.ensures
-
-pub overflow_cast-w-2 : goal.overflow_cast-w-2
-overflow_cast-w-2 c = let h = short (goal.at.overflow_cast-w-2 c).After-write_plan-w in omega (arith, h)
-
-pub returns : goal.returns
-returns c =
-    laid_written_lem _ _ _ _ _ c.sections_of-sections.result
-    c.left_in-left.result
-    c.write_plan-w.result _ _
-    c.if-told-ne0.false
-    c.sections_of-sections.ensures
-    c.left_in-left.ensures
-    c.write_plan-w.ensures
-    _ c.if-w-ne0.false c.word_of-2.ensures (rw c.bits_of.ensures)
+pub returns-in-Err : goal.returns-in-Err
+returns-in-Err c =
+    let a = c.args in
+    rw (c.word_of-in-Err.ensures, c.number.ensures, c.needed.ensures)
+    (laid_refused a.order.now a.told a.lines.now a.sheet.now _ _ a.figures.now c.in-Err.refusal c.write_lines.ensures c.in-Err.is)

@@ -1,28 +1,18 @@
--- `run_ep_packing` meets its contract: what is handed out of the columns is the plan that was laid in them.
-use mathlib.Core.Path.{sym}
+-- `run_ep_packing` meets its contract: what is handed out of the lines is the plan that was laid in them.
 use native.Mathlib.Nat.{le_refl}
 use Rattle.domain.specs.Bounds.{most_lines}
+use Rattle.std.proofs.Common.{rules}
+use Rattle.plan_sheet.specs.Laid.{plan_in, Lays}
+use Rattle.plan_sheet.specs.Room.{fitting}
+use Rattle.point_run.specs.Runs.{ep_packing_of}
 use Rattle.plan_laws.specs.Fits.{points_modest}
 use Rattle.plan_run.specs.Sound.{packs, points_sound}
 use Rattle.plan_run.proofs.run_ep_packing.Goals as goal
 
 pub returns : goal.returns
 returns c =
-    let h = c.before.before in
-    let l = h.before.before.before.before.before.before.before.before.before.before in
-    let a = l.args in
-    let n = le_refl most_lines in
-    packs a.order.now _ _ (record { ids = n; instances = n; turns = n; spots = n }) (points_modest a.order.now a.consider)
-    (points_sound a.order.now a.consider) _ _ _ _ _ l.lay_points-told.ensures h.hand_laid.ensures
-
-pub slice_bounds-hand_laid-end : goal.slice_bounds-hand_laid-end
-slice_bounds-hand_laid-end c = sym c.lay_points-told.auto.ids
-
-pub slice_bounds-hand_laid-end-2 : goal.slice_bounds-hand_laid-end-2
-slice_bounds-hand_laid-end-2 c = sym c.lay_points-told.auto.instances
-
-pub slice_bounds-hand_laid-end-3 : goal.slice_bounds-hand_laid-end-3
-slice_bounds-hand_laid-end-3 c = sym c.lay_points-told.auto.turns
-
-pub slice_bounds-hand_laid-end-4 : goal.slice_bounds-hand_laid-end-4
-slice_bounds-hand_laid-end-4 c = sym c.lay_points-told.auto.spots
+    let a = c.args in
+    let h = c.run.ensures in
+    let k = h.laid in
+    let e : Lays (fitting k.shown.now (plan_in ep_packing_of a.order.now a.consider)) h.told k.shown.now k.left.now = let m = k.met in search rules in
+    packs a.order.now _ _ (le_refl most_lines) (points_modest a.order.now a.consider) (points_sound a.order.now a.consider) _ _ _ _ _ (rw (k.shows, k.leaves) at e) h.given

@@ -6,7 +6,7 @@ use mathlib.Core.List.{List}
 use native.Mathlib.Omega.{arith}
 use borrow.Author.Tests.{ltb-true}
 use Rattle.lists.specs.Bools.{and_left}
-use Rattle.plan_unplaced.specs.Left.{reached_less}
+use Rattle.sheet.specs.declared.Line.{Line}
 use Rattle.plan_unplaced.specs.Short.{distinct_placed}
 use Rattle.plan_unplaced.specs.Distinct.{distinct_none, distinct_most, distinct_done}
 use Rattle.plan_unplaced.specs.Marks.{Adds, marked_none, adds_strangers}
@@ -17,8 +17,8 @@ pub loop-j-init : goal.loop-j-init
 loop-j-init c =
     let a = c.args in (
       omega arith,
-      rw c.no_marks-seen.ensures (marked_none a.ids.now a.instances.now a.id a.quantity (omega arith)),
-      sym (distinct_none a.ids.now a.instances.now a.id a.quantity),
+      rw c.no_marks-seen.ensures (marked_none a.lines.now a.id a.quantity (omega arith)),
+      sym (distinct_none a.lines.now a.id a.quantity),
     )
 
 -- a turn's block begins among the n lines
@@ -31,19 +31,19 @@ some_named-requires c = let e = c.block_end-to.ensures in (omega arith, omega ar
 pub mark_lines-count-requires : goal.mark_lines-count-requires
 mark_lines-count-requires c =
     let e = c.block_end-to.ensures in
-    (omega arith, reached_less _ c.requires.1 e.1, c.requires.2, c.loop-j.invariant.1)
+    (omega arith, omega arith, c.requires.2, c.loop-j.invariant.1)
 
 -- the count after a block
-counted : (ids instances : List ℕ) (from to id q added count : ℕ) (seen : List Bool) → count ≡ distinct_placed ids instances from id q
-    → Adds ids instances from to id q added seen → count + added ≡ distinct_placed ids instances to id q
-counted ids instances from to id q added count seen e a = let c = a.counts in omega arith
+counted : (lines : List Line) (from to id q added count : ℕ) (seen : List Bool) → count ≡ distinct_placed lines from id q
+    → Adds lines from to id q added seen → count + added ≡ distinct_placed lines to id q
+counted lines from to id q added count seen e a = let c = a.counts in omega arith
 
 -- so far it is at most the lines
-few : (ids instances : List ℕ) (from to id q added count : ℕ) (seen : List Bool) → count ≡ distinct_placed ids instances from id q
-    → Adds ids instances from to id q added seen → count + added ≤ to
-few ids instances from to id q added count seen e a =
-    let c = counted ids instances from to id q added count seen e a in
-    let d = distinct_most ids instances to id q in
+few : (lines : List Line) (from to id q added count : ℕ) (seen : List Bool) → count ≡ distinct_placed lines from id q
+    → Adds lines from to id q added seen → count + added ≤ to
+few lines from to id q added count seen e a =
+    let c = counted lines from to id q added count seen e a in
+    let d = distinct_most lines to id q in
     omega arith
 
 pub loop-j-preserved-then-some_named : goal.loop-j-preserved-then-some_named
@@ -51,27 +51,27 @@ loop-j-preserved-then-some_named c =
     let e = c.block_end-to.ensures in
     let l = c.loop-j in
     let a = c.mark_lines-count.ensures in
-    (omega arith, a.after, counted _ _ _ _ _ _ _ _ _ l.invariant.2 a)
+    (omega arith, a.after, counted _ _ _ _ _ _ _ _ l.invariant.2 a)
 
 pub loop-j-preserved : goal.loop-j-preserved
 loop-j-preserved c =
     let e = c.block_end-to.ensures in
     let l = c.loop-j in
-    let a = adds_strangers _ _ _ _ _ _ l.seen (omega arith) (c.some_named.ensures c.if-some_named.false) l.invariant.1 in
-    let d = counted _ _ _ _ _ _ _ _ _ l.invariant.2 a in
+    let a = adds_strangers _ _ _ _ _ l.seen (omega arith) (c.some_named.ensures c.if-some_named.false) l.invariant.1 in
+    let d = counted _ _ _ _ _ _ _ _ l.invariant.2 a in
     (omega arith, a.after, omega arith)
 
 pub returns : goal.returns
 returns c =
     let a = c.args in
     let l = c.loop-j in
-    distinct_done a.ids.now a.instances.now l.j a.n a.id a.quantity l.count l.invariant.0 l.invariant.2 c.loop-j-test.false
+    distinct_done a.lines.now l.j a.n a.id a.quantity l.count l.invariant.0 l.invariant.2 c.loop-j-test.false
 
 pub block_end-to-requires : goal.block_end-to-requires
 block_end-to-requires c = turn c
 
 pub overflow_add-count : goal.overflow_add-count
-overflow_add-count c = let e = c.block_end-to.ensures in let f = few _ _ _ _ _ _ _ _ _ c.loop-j.invariant.2 c.mark_lines-count.ensures in omega (arith, f, e)
+overflow_add-count c = let e = c.block_end-to.ensures in let f = few _ _ _ _ _ _ _ _ c.loop-j.invariant.2 c.mark_lines-count.ensures in omega (arith, f, e)
 
 pub loop-j-smaller-then-some_named : goal.loop-j-smaller-then-some_named
 loop-j-smaller-then-some_named c = let e = c.block_end-to.ensures in omega arith

@@ -7,7 +7,7 @@ use Rattle.plan_unplaced.proofs.distinct_placed.Given as goal
 
 abbrev pub invariant-loop-j : goal.invariant-loop-j
 invariant-loop-j l =
-    (l.j ≤ l.n) × Marked l.ids l.instances l.j l.id l.quantity l.seen × (l.count ≡ distinct_placed l.ids l.instances l.j l.id l.quantity)
+    (l.j ≤ l.n) × Marked l.lines l.j l.id l.quantity l.seen × (l.count ≡ distinct_placed l.lines l.j l.id l.quantity)
 
 abbrev pub decreases-loop-j : goal.decreases-loop-j
 decreases-loop-j l = l.n - l.j

@@ -10,8 +10,8 @@ pub returns-then-quantity-gt-MOST_LINES : goal.returns-then-quantity-gt-MOST_LIN
 unfolding is_short
 returns-then-quantity-gt-MOST_LINES c =
     let a = c.args in
-    let m = distinct_most a.ids.now a.instances.now a.n a.id a.quantity in
-    sym (lt-ltb (distinct_placed a.ids.now a.instances.now a.n a.id a.quantity) a.quantity (omega arith))
+    let m = distinct_most a.lines.now a.n a.id a.quantity in
+    sym (lt-ltb (distinct_placed a.lines.now a.n a.id a.quantity) a.quantity (omega arith))
 
 pub returns : goal.returns
 unfolding is_short

@@ -7,22 +7,14 @@ use Rattle.lists.specs.Bools.{or_left, or_right}
 use Rattle.plan_unplaced.proofs.some_named.Goals as goal
 
 pub loop-j-init : goal.loop-j-init
-loop-j-init c = (omega arith, omega arith, λ h. record { none_named = λ j a b. absurd (omega arith) })
+loop-j-init c h = record { none_named = λ j a b. absurd (omega arith) }
 
 pub loop-j-preserved : goal.loop-j-preserved
-loop-j-preserved c =
-    let l = c.loop-j in (
-      omega arith,
-      omega arith,
-      λ h. record {
-        none_named =
-            λ j a b.
-            ⊎_elim (λ e. rw e (or_right l.named _ h)) (λ m. (l.invariant.2 (or_left l.named _ h)).none_named j a m)
-            (eq-or-lt_of_le (le_of_suc-le-suc (rw add-one at b)));
-      },
-    )
-
-pub returns : goal.returns
-returns c h =
+loop-j-preserved c h =
     let l = c.loop-j in
-    record { none_named = λ j a b. (l.invariant.2 h).none_named j a (omega arith) }
+    record {
+      none_named =
+          λ j a b.
+          ⊎_elim (λ e. rw e (or_right l.named _ h)) (λ m. (l.invariant (or_left l.named _ h)).none_named j a m)
+          (eq-or-lt_of_le (le_of_suc-le-suc (rw add-one at b)));
+    }

@@ -1,28 +1,38 @@
 -- `point_grow::free` meets its contract: no box passed has the point in it, and the one that ends the loop has.
-use mathlib.Core.Path.{◌≡◌, refl, sym, ◌∙◌, ap}
+use Rattle.std.proofs.Common.{◌≡◌, ◌<◌, refl, sym, ap, arith, get_or-take, length-take-le}
 use mathlib.Core.Bool.{not}
-use native.Mathlib.Omega.{arith}
 use Rattle.point_state.specs.All.{all, all_more, all_false}
+use Rattle.point_state.specs.Stores.{no_spot}
 use Rattle.point_grow.specs.Grow.{free}
 use Rattle.point_grow.proofs.free.Goals as goal
 
-pub loop-i-init : goal.loop-i-init
+pub loop-spot-init : goal.loop-spot-init
 unfolding free all
-loop-i-init c = (omega arith, refl)
+loop-spot-init c = refl
 
-pub returns-then-buried_in : goal.returns-then-buried_in
+pub returns-then-buries : goal.returns-then-buries
 unfolding free
-returns-then-buried_in c =
-    sym (all_false _ _ c.loop-i.i (omega arith) (ap not (sym c.buried_in.ensures ∙ c.if-buried_in.true)))
+returns-then-buries c =
+    let a = c.args in
+    let i = c.loop-spot.spot-index in
+    let long = length-take-le a.n a.boxes.now c.requires in
+    let below : i < a.n = omega arith in
+    let e = rw (c.buries.ensures, get_or-take a.n a.boxes.now i no_spot below) at c.if-buries.true in
+    sym (all_false _ _ i below (ap not e))
 
-pub loop-i-preserved : goal.loop-i-preserved
+pub loop-spot-preserved : goal.loop-spot-preserved
 unfolding free
-loop-i-preserved c = (
-  omega arith,
-  all_more _ _ c.loop-i.invariant.1 (ap not (sym c.buried_in.ensures ∙ c.if-buried_in.false)),
-)
+loop-spot-preserved c =
+    let a = c.args in
+    let i = c.loop-spot.spot-index in
+    let long = length-take-le a.n a.boxes.now c.requires in
+    let below : i < a.n = omega arith in
+    let e = rw (c.buries.ensures, get_or-take a.n a.boxes.now i no_spot below) at c.if-buries.false in
+    all_more _ _ c.loop-spot.invariant (ap not e)
 
 pub returns : goal.returns
 returns c =
-    let e : c.loop-i.i ≡ c.args.n = omega arith in
-    sym (rw e at c.loop-i.invariant.1)
+    let a = c.args in
+    let long = length-take-le a.n a.boxes.now c.requires in
+    let e : c.loop-spot.spot-index ≡ a.n = omega arith in
+    sym (rw e at c.loop-spot.invariant)

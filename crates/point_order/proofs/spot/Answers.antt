@@ -11,39 +11,24 @@ pub loop-i-init : goal.loop-i-init
 loop-i-init c =
     let h = c.requires.1 in
     let a = c.args in
-    (h, scan_from (λ t. get_or a.volumes.now t nan) a.v a.places.now a.n a.from h c.requires.0.long c.requires.2)
+    scan_from (λ t. get_or a.volumes.now t nan) a.v a.places.now a.n a.from h c.requires.0.long c.requires.2
 
 pub returns-then-volumes-t : goal.returns-then-volumes-t
 returns-then-volumes-t c =
     let b = c.before.before.before.before in
     let a = b.args in
     let l = b.loop-i in
-    scan_here (λ t. get_or a.volumes.now t nan) a.v a.places.now a.n l.i (omega arith) b.requires.0.long l.invariant.1 c.if-volumes-t.true
+    scan_here (λ t. get_or a.volumes.now t nan) a.v a.places.now a.n l.i (omega arith) b.requires.0.long l.invariant c.if-volumes-t.true
 
 pub loop-i-preserved : goal.loop-i-preserved
 loop-i-preserved c =
     let b = c.before.before.before.before in
     let a = b.args in
-    let l = b.loop-i in (
-      omega arith,
-      scan_on (λ t. get_or a.volumes.now t nan) a.v a.places.now a.n l.i (omega arith) b.requires.0.long l.invariant.1 c.if-volumes-t.false,
-    )
+    let l = b.loop-i in
+    scan_on (λ t. get_or a.volumes.now t nan) a.v a.places.now a.n l.i (omega arith) b.requires.0.long l.invariant c.if-volumes-t.false
 
 pub returns : goal.returns
 returns c =
     let a = c.args in
     let e : c.loop-i.i ≡ a.n = omega arith in
-    scan_all (λ t. get_or a.volumes.now t nan) a.v a.places.now a.n (rw e at c.loop-i.invariant.1)
-
-pub offset_bounds-places-i : goal.offset_bounds-places-i
-offset_bounds-places-i c = let l = c.requires.0.long in omega (arith, l)
-
-pub bounds-places-i : goal.bounds-places-i
-bounds-places-i c = let l = c.requires.0.long in omega (arith, l)
-
--- a place is that of a box with a volume
-pub offset_bounds-volumes-t : goal.offset_bounds-volumes-t
-offset_bounds-volumes-t c = let h = c.requires.0.place_in c.loop-i.i (omega arith) in omega (arith, h)
-
-pub bounds-volumes-t : goal.bounds-volumes-t
-bounds-volumes-t c = c.requires.0.place_in c.loop-i.i (omega arith)
+    scan_all (λ t. get_or a.volumes.now t nan) a.v a.places.now a.n (rw e at c.loop-i.invariant)

@@ -1,9 +1,12 @@
--- `point_reads::is_empty` meets its contract: by whether the counts are over.
-use mathlib.Core.Path.{sym, ◌∙◌}
+-- `point_reads::is_empty` meets its contract: refused, or whether there are none.
+use Rattle.std.proofs.lemmas.Result.{err_from_is_err_and}
+use Rattle.domain.specs.Refusal.{refused_as, no_refusal, no_number}
 use Rattle.point_reads.proofs.is_empty.Goals as goal
 
-pub returns-then-over_counts : goal.returns-then-over_counts
-returns-then-over_counts c = rw (sym c.over_counts.ensures ∙ c.if-over_counts.true)
+pub returns-in_err-within : goal.returns-in_err-within
+returns-in_err-within c =
+    let p = err_from_is_err_and c.from_residual.result c.from_residual.ensures.1 in
+    rw (p.1, p.2) (refused_as _ 0 tt _ _ c.in_err-within.ensures)
 
 pub returns : goal.returns
-returns c = rw (sym c.over_counts.ensures ∙ c.if-over_counts.false)
+returns c = no_number _ 0 _ (no_refusal _ 0 tt tt c.in_ok-within.ensures)

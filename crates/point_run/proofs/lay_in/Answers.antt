@@ -1,22 +1,12 @@
--- `point_run::lay_in` meets its contract: the boxes listed and sorted are ready to be laid.
-use native.Mathlib.Omega.{arith}
-use Rattle.plan_boxes.specs.Files.{in_file}
-use Rattle.point_run.specs.Boxes.{ready}
+-- `point_run::lay_in` meets its contract: tables of this size have a cell for each box, and the boxes sorted are laid.
+use Prim.Native.Nat.{ℕ}
+use Rattle.std.proofs.lemmas.List.{length-replicate}
 use Rattle.point_run.proofs.lay_in.Goals as goal
 
-pub list_boxes-requires : goal.list_boxes-requires
-list_boxes-requires c =
-    let q = c.requires.0 in
-    let t = c.requires.1 in
-    (in_file _ _ q.can_read q.right (let e = q.all_is in omega (arith, e)), t.which_in, t.copies_in, t.volumes_in)
+pub sort_boxes-requires : goal.sort_boxes-requires
+sort_boxes-requires g c =
+    let b = c.requires.1 in
+    (c.requires.0, b, c.requires.2, rw (length-replicate g.row.BOXES _) b, rw (length-replicate {A = ℕ} g.row.BOXES 0) b)
 
 pub lay_each-requires : goal.lay_each-requires
-lay_each-requires c = (
-  ready c.args.f.now _ _ c.requires.0 _ _ _ _ c.requires.1 _ _ _ _ c.list_boxes.ensures c.falling.ensures,
-  c.requires.2,
-  c.requires.3,
-  c.requires.4,
-)
-
-pub returns : goal.returns
-returns c = c.lay_each.ensures
+lay_each-requires g c = (c.sort_boxes.ensures, c.requires.3, c.requires.4)

@@ -1,5 +1,4 @@
 -- `point_run::list_boxes` meets its contract: each turn stores one box more, and goes on to the next.
-use Prim.Native.Nat.{◌≤◌, ◌-◌}
 use mathlib.Core.Path.{◌≡◌}
 use Rattle.file_read.specs.Reading.{sheet_of}
 use Rattle.plan_boxes.specs.Turns.{turn_of}
@@ -8,7 +7,4 @@ use Rattle.point_run.proofs.list_boxes.Given as goal
 
 abbrev pub invariant-loop-t : goal.invariant-loop-t
 invariant-loop-t l =
-    (l.t ≤ l.n) × (l.u ≡ turn_of (sheet_of l.f).kinds l.t) × Lists (sheet_of l.f).kinds l.t l.initial.which l.initial.copies l.initial.volumes l.which l.copies l.volumes
-
-abbrev pub decreases-loop-t : goal.decreases-loop-t
-decreases-loop-t l = l.n - l.t
+    (l.u ≡ turn_of (sheet_of l.f).kinds l.t) × Lists (sheet_of l.f).kinds l.t l.initial.items l.initial.volumes l.items l.volumes

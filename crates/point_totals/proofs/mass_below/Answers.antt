@@ -1,19 +1,24 @@
 -- `point_totals::mass_below` meets its contract: after i turns the sum is that over the first i boxes.
-use mathlib.Core.Path.{◌≡◌, refl}
-use native.Mathlib.Omega.{arith}
-use native.Mathlib.Numerals.{add-one}
-use Rattle.point_state.specs.Boxes.{mass_below}
+use Rattle.std.proofs.Common.{◌≡◌, ◌<◌, refl, arith, add-one, get_or-take, length-take-le}
+use Rattle.point_state.specs.Boxes.{mass_below, no_label}
 use Rattle.point_totals.proofs.mass_below.Goals as goal
 
-pub loop-i-init : goal.loop-i-init
+pub loop-label-init : goal.loop-label-init
 unfolding mass_below
-loop-i-init c = (omega arith, refl)
+loop-label-init c = refl
 
-pub loop-i-preserved : goal.loop-i-preserved
+pub loop-label-preserved : goal.loop-label-preserved
 unfolding mass_below
-loop-i-preserved c = (omega arith, rw (c.mass_with-sum.ensures, c.loop-i.invariant.1, add-one))
+loop-label-preserved c =
+    let a = c.args in
+    let i = c.loop-label.label-index in
+    let long = length-take-le a.n a.labels.now c.requires in
+    let below : i < a.n = omega arith in
+    rw (c.mass_with-sum.ensures, c.loop-label.invariant, get_or-take a.n a.labels.now i no_label below, add-one)
 
 pub returns : goal.returns
 returns c =
-    let e : c.loop-i.i ≡ c.args.n = omega arith in
-    rw e at c.loop-i.invariant.1
+    let a = c.args in
+    let long = length-take-le a.n a.labels.now c.requires in
+    let e : c.loop-label.label-index ≡ a.n = omega arith in
+    rw e at c.loop-label.invariant

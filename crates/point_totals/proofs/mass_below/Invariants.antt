@@ -1,11 +1,7 @@
 -- `point_totals::mass_below` meets its contract: after i turns the sum is that over the first i boxes.
-use Prim.Native.Nat.{◌≤◌, ◌-◌}
 use mathlib.Core.Path.{◌≡◌}
 use Rattle.point_state.specs.Boxes.{mass_below}
 use Rattle.point_totals.proofs.mass_below.Given as goal
 
-abbrev pub invariant-loop-i : goal.invariant-loop-i
-invariant-loop-i l = (l.i ≤ l.n) × (l.sum ≡ mass_below l.labels l.i)
-
-abbrev pub decreases-loop-i : goal.decreases-loop-i
-decreases-loop-i l = l.n - l.i
+abbrev pub invariant-loop-label : goal.invariant-loop-label
+invariant-loop-label l = l.sum ≡ mass_below l.labels l.label-index

@@ -1,24 +1,25 @@
 -- `point_totals::volume_below` meets its contract: after i turns the sum is that over the first i boxes.
-use Prim.Native.Nat.{◌+◌, ◌*◌}
-use mathlib.Core.Path.{◌≡◌, refl}
-use native.Mathlib.Omega.{arith}
-use native.Mathlib.Numerals.{add-one}
+use Rattle.std.proofs.Common.{◌≡◌, ◌<◌, refl, arith, add-one, get_or-take, length-take-le}
 use Rattle.point_state.specs.Boxes.{volume_below}
-use Rattle.point_state.specs.Triples.{triple_in_lem}
+use Rattle.point_state.specs.Stores.{no_spot}
 use Rattle.point_totals.proofs.volume_below.Goals as goal
 
-pub loop-i-init : goal.loop-i-init
+pub loop-spot-init : goal.loop-spot-init
 unfolding volume_below
-loop-i-init c = (omega arith, refl)
+loop-spot-init c = refl
 
-pub loop-i-preserved : goal.loop-i-preserved
+pub loop-spot-preserved : goal.loop-spot-preserved
 unfolding volume_below
-loop-i-preserved c =
-    let l = c.loop-i in
-    let e = triple_in_lem c.args.boxes.now (2 * l.i + 1) (omega arith) in
-    (omega arith, rw (c.measure-sum.ensures, c.triple_at.ensures, e, l.invariant.1, add-one l.i))
+loop-spot-preserved c =
+    let a = c.args in
+    let i = c.loop-spot.spot-index in
+    let long = length-take-le a.n a.boxes.now c.requires in
+    let below : i < a.n = omega arith in
+    rw (c.measure-sum.ensures, c.loop-spot.invariant, get_or-take a.n a.boxes.now i no_spot below, add-one)
 
 pub returns : goal.returns
 returns c =
-    let e : c.loop-i.i ≡ c.args.n = omega arith in
-    rw e at c.loop-i.invariant.1
+    let a = c.args in
+    let long = length-take-le a.n a.boxes.now c.requires in
+    let e : c.loop-spot.spot-index ≡ a.n = omega arith in
+    rw e at c.loop-spot.invariant

@@ -1,18 +1,29 @@
--- `sheet::lines_fault` meets its contract: after i turns it has the first refusal of the first i lines.
-use mathlib.Core.Path.{◌≡◌, refl}
-use native.Mathlib.Omega.{arith}
-use native.Mathlib.Numerals.{add-one}
+-- `sheet::lines_fault` meets its contract: no line passed is refused, and the one that is decides.
+use Rattle.std.proofs.Common.{◌≡◌, length, refl, arith}
+use Rattle.std.proofs.lemmas.Result.{err_from_is_err_and}
 use Rattle.domain.specs.Refusals.{first_below}
+use Rattle.domain.specs.Refusal.{first_at, no_refusal, no_number, none_to}
 use Rattle.sheet.specs.Sheets.{line_fault_in}
 use Rattle.sheet.proofs.lines_fault.Goals as goal
 
-pub loop-i-init : goal.loop-i-init
+pub loop-line-init : goal.loop-line-init
 unfolding first_below
-loop-i-init c = (omega arith, refl)
+loop-line-init c = refl
 
-pub loop-i-preserved : goal.loop-i-preserved
-unfolding first_below line_fault_in
-loop-i-preserved c = (omega arith, rw add-one (cc))
+pub returns-in_err-line_fault : goal.returns-in_err-line_fault
+unfolding line_fault_in
+returns-in_err-line_fault c =
+    let p = err_from_is_err_and c.from_residual.result c.from_residual.ensures.1 in
+    rw (p.1, p.2)
+    (first_at (line_fault_in c.args.lines.now) (length c.args.lines.now) c.loop-line.line-index 0 tt tt _ c.loop-line.invariant
+    c.loop-line-test.true c.in_err-line_fault.ensures)
+
+pub loop-line-preserved : goal.loop-line-preserved
+unfolding line_fault_in
+loop-line-preserved c =
+    none_to (line_fault_in c.args.lines.now) c.loop-line.line-index c.loop-line.invariant (no_refusal _ 0 tt tt c.in_ok-line_fault.ensures)
 
 pub returns : goal.returns
-returns c = let e : c.loop-i.i ≡ c.args.n = omega arith in rw e at c.loop-i.invariant.1
+returns c =
+    let e : c.loop-line.line-index ≡ length c.args.lines.now = omega arith in
+    no_number _ 0 tt (rw e at c.loop-line.invariant)

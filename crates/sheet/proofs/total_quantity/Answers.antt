@@ -1,19 +1,15 @@
--- `sheet::total_quantity` meets its contract: after k turns the sum is over the first k kinds.
-use mathlib.Core.Path.{◌≡◌, refl}
-use native.Mathlib.Omega.{arith}
-use native.Mathlib.Numerals.{add-one}
+-- `sheet::total_quantity` meets its contract: the sum is over the kinds passed, and each adds a number of 32 bits.
+use Rattle.std.proofs.Common.{refl, arith, add-one}
 use Rattle.lists.specs.Below.{sum_below}
 use Rattle.sheet.specs.Sheets.{quantity_of}
 use Rattle.sheet.proofs.total_quantity.Goals as goal
 
-pub loop-k-init : goal.loop-k-init
+pub loop-kind-init : goal.loop-kind-init
 unfolding sum_below
-loop-k-init c = (omega arith, omega arith, refl)
+loop-kind-init c = record { small = omega arith; sum_is = refl }
 
-pub loop-k-preserved : goal.loop-k-preserved
+pub loop-kind-preserved : goal.loop-kind-preserved
 unfolding sum_below quantity_of
-loop-k-preserved c =
-    (omega arith, omega arith, rw (add-one, ← c.loop-k.invariant.2) (rw c.wide-t.ensures.0))
-
-pub returns : goal.returns
-returns c = let e : c.loop-k.k ≡ c.args.n = omega arith in rw e at c.loop-k.invariant.2
+loop-kind-preserved c =
+    let e = c.from-total.ensures in
+    record { small = omega arith; sum_is = rw (add-one, ← c.loop-kind.invariant.sum_is) (rw e) }

@@ -1,13 +1,12 @@
--- `sheet::total_quantity` meets its contract: after k turns the sum is over the first k kinds.
-use mathlib.Core.Path.{◌≡◌}
-use Prim.Native.Nat.{◌≤◌, ◌-◌}
-use Prim.Native.Nat.{◌*◌}
+-- `sheet::total_quantity` meets its contract: the sum is over the kinds passed, and each adds a number of 32 bits.
+use Rattle.std.proofs.Common.{◌≡◌, ◌≤◌, ◌*◌}
 use Rattle.lists.specs.Below.{sum_below}
 use Rattle.sheet.specs.Sheets.{quantity_of}
 use Rattle.sheet.proofs.total_quantity.Given as goal
 
-abbrev pub invariant-loop-k : goal.invariant-loop-k
-invariant-loop-k l = (l.k ≤ l.n) × (l.t ≤ l.k * 4294967295) × (l.t ≡ sum_below (quantity_of l.kinds) l.k)
-
-abbrev pub decreases-loop-k : goal.decreases-loop-k
-decreases-loop-k l = l.n - l.k
+abbrev pub invariant-loop-kind : goal.invariant-loop-kind
+invariant-loop-kind l =
+    record {
+      small : l.total ≤ l.kind-index * 4294967295;
+      sum_is : l.total ≡ sum_below (quantity_of l.kinds) l.kind-index;
+    }

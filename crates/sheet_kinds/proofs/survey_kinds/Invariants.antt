@@ -1,11 +1,15 @@
--- `sheet_kinds::survey_kinds`: after i kinds the sum so far is that of the first i, and their quantities are of 32 bits.
-use Rattle.std.proofs.Common.{length, ◌-◌, ◌≡◌, ◌≤◌}
-use Rattle.sheet_kinds.specs.Scan.{passed_below}
-use Rattle.sheet_kinds.specs.Scanned.{Small}
+-- `sheet_kinds::survey_kinds` meets its contract: ids, total and first fault are those of the kinds passed.
+use Rattle.std.proofs.Common.{◌≡◌, ◌≤◌, ◌*◌}
+use Rattle.lists.specs.Below.{sum_below}
+use Rattle.sheet.specs.Sheets.{ids_below, kind_fault_in, quantity_of}
+use Rattle.sheet_kinds.specs.Survey.{fault_below}
 use Rattle.sheet_kinds.proofs.survey_kinds.Given as goal
 
-abbrev pub invariant-loop-i : goal.invariant-loop-i
-invariant-loop-i l = record { within : l.i ≤ length l.ks; sums : l.passed ≡ passed_below l.ks l.i; small : Small l.ks l.i }
-
-abbrev pub decreases-loop-i : goal.decreases-loop-i
-decreases-loop-i l = length l.ks - l.i
+abbrev pub invariant-loop-k : goal.invariant-loop-k
+invariant-loop-k l =
+    record {
+      ids_are : l.ids ≡ ids_below l.ks l.k;
+      small : l.total ≤ l.k * 4294967295;
+      total_is : l.total ≡ sum_below (quantity_of l.ks) l.k;
+      fault_is : l.fault ≡ fault_below (kind_fault_in l.ks) l.k;
+    }

@@ -1,16 +1,14 @@
 -- `wk_fill` meets its contract: the refusal of the file or of its fill, or the fill stored.
-use mathlib.Core.Path.{sym, ◌∙◌}
-use borrow.Author.Tests.{eq-eqb, ne_eqb}
-use Rattle.waikurpeho.specs.Fill.{answer_is, after_is}
+use Rattle.std.proofs.Common.{◌∙◌}
+use Rattle.waikurpeho.specs.Fill.{fill_refused, fill_stays, fill_told, fill_stored}
 use Rattle.waikurpeho.proofs.wk_fill.Goals as goal
 
-pub returns-then-f-ne0 : goal.returns-then-f-ne0
-returns-then-f-ne0 c =
-    let e = sym c.fill_of-f.ensures in
-    (c.word_of.ensures ∙ rw (answer_is, e), rw (after_is, e, ne_eqb _ _ c.if-f-ne0.true))
+pub returns-in-Ok : goal.returns-in-Ok
+returns-in-Ok c =
+    let e = c.in-Ok.ensures in
+    (c.word_of.ensures ∙ fill_told c.args.sheet.now c.in-Ok.thousandths e, fill_stored c.args.sheet.now c.args.fill.now c.in-Ok.thousandths e)
 
-pub returns : goal.returns
-returns c =
-    let e = sym c.fill_of-f.ensures in
-    let z = c.if-f-ne0.false in
-    (c.word_of-2.ensures ∙ rw (answer_is, e, z), rw (after_is, e, eq-eqb _ _ z))
+pub returns-in-Err : goal.returns-in-Err
+returns-in-Err c =
+    let e = c.in-Err.ensures in
+    (c.word_of-in-Err.ensures ∙ rw c.number.ensures (fill_refused c.args.sheet.now c.in-Err.refusal e), fill_stays c.args.sheet.now c.args.fill.now c.in-Err.refusal e)

@@ -1,5 +1,5 @@
 -- `pair::put_pairs` meets its contract: after i turns the pairs of the first i lines stand.
-use Prim.Native.Nat.{◌≤◌, ◌-◌}
+use Rattle.std.proofs.Common.{◌-◌}
 use Rattle.lists.specs.Below.{all_below}
 use Rattle.check_words.specs.Wrote.{Wrote}
 use Rattle.check_list.specs.View.{pairs_found}
@@ -9,7 +9,7 @@ use Rattle.check_list.proofs.pair.put_pairs.Given as goal
 
 abbrev pub invariant-loop-i : goal.invariant-loop-i
 invariant-loop-i l =
-    (l.i ≤ l.n) × Enough l.at l.n (l.n - l.i) l.p × Wrote l.initial.out l.at (all_below (pairs_found (boxes_in l.rule l.which l.boxes)) l.i) l.p l.out
-
-abbrev pub decreases-loop-i : goal.decreases-loop-i
-decreases-loop-i l = l.n - l.i
+    record {
+      enough : Enough l.at l.n (l.n - l.i) l.p;
+      words : Wrote l.initial.out l.at (all_below (pairs_found (boxes_in l.rule l.which l.boxes)) l.i) l.p l.out;
+    }

@@ -16,4 +16,4 @@ returns-in-Overlap c =
 pub returns-in-TooClose : goal.returns-in-TooClose
 unfolding verdict_words
 returns-in-TooClose c =
-    (rw (c.in-TooClose.is, ← c.bits_of.ensures, ← c.bits_of-in-TooClose.ensures) (c.put_if-in-TooClose.ensures.within (omega arith)), c.put_if-in-TooClose.ensures.few)
+    (rw c.in-TooClose.is (c.put_if-in-TooClose.ensures.within (omega arith)), c.put_if-in-TooClose.ensures.few)

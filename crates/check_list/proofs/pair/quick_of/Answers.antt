@@ -8,5 +8,5 @@ returns c =
     record {
       limit_is = c.limit-limit.ensures;
       reach_is = c.reach_of.ensures ∙ rw c.limit-limit.ensures;
-      fair = rw c.close_of.ensures (fair_past c.args.counts c.args.asked c.args.t);
+      fair = rw c.close_of.ensures (fair_past c.args.counts c.args.clearance.asked c.args.clearance.slack);
     }

@@ -15,7 +15,7 @@ use Rattle.check_packing.proofs.columns.first_column.Goals.{In-loop-k}
 
 pub loop-k-init : goal.loop-k-init
 unfolding filled kind_first sum_below
-loop-k-init c = (omega arith, refl, refl)
+loop-k-init c = record { sum_is = refl; firsts_are = refl }
 
 inside : (c : In-loop-k) → c.args.a.kinds ≤ most_kinds
 inside c = few_kinds _ _ c.requires.0
@@ -25,21 +25,21 @@ unfolding kind_many
 overflow_add-sum c =
     let less = c.loop-k-test.true in
     let q = c.requires.1 c.loop-k.k less in
-    omega (arith, c.loop-k.invariant.1, q, first_few _ (sound _ _ c.requires.0) c.loop-k.k (rw (kinds_are _ _ c.requires.0) at less))
+    omega (arith, c.loop-k.invariant.sum_is, q, first_few _ (sound _ _ c.requires.0) c.loop-k.k (rw (kinds_are _ _ c.requires.0) at less))
 
 pub loop-k-preserved : goal.loop-k-preserved
 unfolding filled kind_first sum_below quantity_of kind_many
 loop-k-preserved c =
-    let q = c.requires.1 c.loop-k.k c.loop-k-test.true in (
-      omega arith,
-      rw (add-one, ← c.loop-k.invariant.1) (rw q),
-      rw (add-one, ← c.loop-k.invariant.2) (rw c.loop-k.invariant.1),
-    )
+    let q = c.requires.1 c.loop-k.k c.loop-k-test.true in
+    record {
+      sum_is = rw (add-one, ← c.loop-k.invariant.sum_is) (rw q);
+      firsts_are = rw (add-one, ← c.loop-k.invariant.firsts_are) (rw c.loop-k.invariant.sum_is);
+    }
 
 pub returns : goal.returns
 returns c =
     let e : c.loop-k.k ≡ c.args.a.kinds = omega arith in
-    rw e at c.loop-k.invariant.2
+    rw e at c.loop-k.invariant.firsts_are
 
 pub offset_bounds-firsts-k : goal.offset_bounds-firsts-k
 offset_bounds-firsts-k c = omega (arith, inside c)
@@ -52,6 +52,3 @@ offset_bounds-many-k c = omega (arith, inside (goal.at.offset_bounds-many-k c).I
 
 pub bounds-many-k : goal.bounds-many-k
 bounds-many-k c = omega (arith, inside (goal.at.bounds-many-k c).In-loop-k)
-
-pub overflow_add-k : goal.overflow_add-k
-overflow_add-k c = omega (arith, inside (goal.at.overflow_add-k c).In-loop-k)

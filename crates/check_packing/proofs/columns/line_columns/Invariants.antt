@@ -1,16 +1,15 @@
 -- `columns::line_columns` meets its contract: after i turns the first i cells of each column are filled, and their mass is summed.
 use mathlib.Core.Path.{◌≡◌}
-use Prim.Native.Nat.{◌≤◌, ◌-◌}
 use Rattle.lists.specs.Table.{filled}
 use Rattle.file_read.specs.Reading.{sheet_of}
 use Rattle.check_packing.specs.Lines.{mass_below}
-use Rattle.check_words.specs.Corners.{boxes_filled}
 use Rattle.check_packing.specs.Columns.{kind_named, box_read}
 use Rattle.check_packing.proofs.columns.line_columns.Given as goal
 
 abbrev pub invariant-loop-i : goal.invariant-loop-i
 invariant-loop-i l =
-    (l.i ≤ l.n) × (l.mass ≡ mass_below (sheet_of l.f) l.i) × (l.which ≡ filled l.initial.which (kind_named (sheet_of l.f)) l.i) × (l.boxes ≡ boxes_filled l.initial.boxes (box_read l.f) l.i)
-
-abbrev pub decreases-loop-i : goal.decreases-loop-i
-decreases-loop-i l = l.n - l.i
+    record {
+      mass_is : l.mass ≡ mass_below (sheet_of l.f) l.i;
+      which_are : l.which ≡ filled l.initial.which (kind_named (sheet_of l.f)) l.i;
+      boxes_are : l.boxes ≡ filled l.initial.boxes (box_read l.f) l.i;
+    }

@@ -15,9 +15,9 @@ use Rattle.file_read.specs.Reading.{sheet_of}
 use Rattle.file_read.specs.Records.{line_is}
 use Rattle.check_packing.specs.Lines.{packed, counted}
 use Rattle.check_packing.proofs.Read.{sound, kinds_are, lines_are, few_lines, counts_read}
-use Rattle.check_packing.proofs.Marks.{Marked, marked_start, turn, first_at, slot_in}
+use Rattle.check_packing.proofs.Marks.{Marked, marked_start, turn, first_at, slot_in, one_when, one_few}
 use Rattle.check_packing.proofs.columns.mark_columns.Goals as goal
-use Rattle.check_packing.proofs.columns.mark_columns.Goals.{After-one_if-one, After-slot-at, In-loop-i}
+use Rattle.check_packing.proofs.columns.mark_columns.Goals.{After-from, After-slot-at, In-loop-i}
 
 pub loop-i-init : goal.loop-i-init
 unfolding filled
@@ -27,7 +27,7 @@ loop-i-init c =
     let seen = c.args.seen.now in
     let start : Marked (sheet_of c.args.f.now) 0 (replicate (length seen) false) (replicate most_kinds 0) =
     marked_start (sheet_of c.args.f.now) (sound _ _ t) (length seen) (rw (kinds_are _ _ t) at u.enough) in
-    (omega arith, refl, rw c.requires.1.0 (rw (← u.none_set) at start), refl)
+    record { again_are = refl; marked = rw c.requires.1.0 (rw (← u.none_set) at start); as_long = refl }
 
 inside : (c : In-loop-i) → c.args.a.lines ≤ most_lines
 inside c = few_lines _ _ c.requires.0.file_taken
@@ -60,10 +60,10 @@ loop-i-preserved c =
     let at = c.slot-at.result in
     let kept = length-set c.loop-i.seen at (get_or c.loop-i.seen at false || counts) in
     let step =
-    turn (sheet_of c.args.f.now) (sound _ _ t) i c.loop-i.seen c.loop-i.packed v.2 counts k (get_or c.args.firsts.now w₁ 0) c.slot-at.result w₁
-    c.one_if-one.result
-    first line.instance (ap (λ (x : Line). x.instance) el) c.slot-at.ensures w c.one_if-one.ensures.0 in
-    (omega arith, rw (add-one, ← v.1) (rw step.0), rw add-one step.1, kept ∙ v.3)
+    turn (sheet_of c.args.f.now) (sound _ _ t) i c.loop-i.seen c.loop-i.packed v.marked counts k (get_or c.args.firsts.now w₁ 0) c.slot-at.result w₁
+    c.from.result
+    first line.instance (ap (λ (x : Line). x.instance) el) c.slot-at.ensures w (c.from.ensures ∙ one_when _) in
+    record { again_are = rw (add-one, ← v.again_are) (rw step.0); marked = rw add-one step.1; as_long = kept ∙ v.as_long }
 
 pub returns : goal.returns
 unfolding packed
@@ -71,23 +71,23 @@ returns c =
     let t = c.requires.0.file_taken in
     let v = c.loop-i.invariant in
     let e : c.loop-i.i ≡ c.args.a.lines = omega arith in
-    (rw e at v.1, λ k below. v.2.sums k (rw (← (kinds_are _ _ t)) below) ∙ ap (sum_below _) (e ∙ lines_are _ _ t))
+    (rw e at v.again_are, λ k below. v.marked.sums k (rw (← (kinds_are _ _ t)) below) ∙ ap (sum_below _) (e ∙ lines_are _ _ t))
 
-one_more : (c : After-one_if-one) → c.args.a.lines ≤ most_lines
+one_more : (c : After-from) → c.args.a.lines ≤ most_lines
 one_more c = few_lines _ _ c.requires.0.file_taken
 
 -- the mark that is read is among them
 slot_lt : (c : After-slot-at) → c.slot-at.result < length c.loop-i.seen
 slot_lt c =
-    rw c.slot-at.ensures (slot_in (length c.loop-i.seen) _ _ _ (rw c.loop-i.invariant.3 c.requires.1.1.1.1.some))
+    rw c.slot-at.ensures (slot_in (length c.loop-i.seen) _ _ _ (rw c.loop-i.invariant.as_long c.requires.1.1.1.1.some))
 
 pub shape_of-again : goal.shape_of-again
-shape_of-again c = rw c.loop-i.invariant.1 (filled_length _ _ _)
+shape_of-again c = rw c.loop-i.invariant.again_are (filled_length _ _ _)
 
 pub overflow_add-packed : goal.overflow_add-packed
 overflow_add-packed c =
-    let h = c.loop-i.invariant.2.few c.place_within-w.result c.place_within-w.ensures.1 in
-    omega (arith, h, c.one_if-one.ensures.1, one_more (goal.at.overflow_add-packed c).After-one_if-one, c.loop-i.invariant.0)
+    let h = c.loop-i.invariant.marked.few c.place_within-w.result c.place_within-w.ensures.1 in
+    omega (arith, h, one_few _ _ c.from.ensures, one_more (goal.at.overflow_add-packed c).After-from)
 
 pub bounds-which-i : goal.bounds-which-i
 bounds-which-i c = in_which (goal.at.bounds-which-i c).In-loop-i
@@ -111,7 +111,7 @@ pub bounds-seen-at : goal.bounds-seen-at
 bounds-seen-at c = slot_lt (goal.at.bounds-seen-at c).After-slot-at
 
 pub bounds-again-i : goal.bounds-again-i
-bounds-again-i c = rw (c.loop-i.invariant.1, filled_length) (in_again (goal.at.bounds-again-i c).In-loop-i)
+bounds-again-i c = rw (c.loop-i.invariant.again_are, filled_length) (in_again (goal.at.bounds-again-i c).In-loop-i)
 
 pub bounds-seen-at-in-loop-i : goal.bounds-seen-at-in-loop-i
 bounds-seen-at-in-loop-i c = slot_lt (goal.at.bounds-seen-at-in-loop-i c).After-slot-at
@@ -122,14 +122,8 @@ offset_bounds-packed-w c = omega (arith, c.place_within-w.ensures.1)
 pub bounds-packed-w : goal.bounds-packed-w
 bounds-packed-w c = omega (arith, c.place_within-w.ensures.1)
 
-pub offset_bounds-packed-w-in-loop-i : goal.offset_bounds-packed-w-in-loop-i
-offset_bounds-packed-w-in-loop-i c = omega (arith, c.place_within-w.ensures.1)
-
 pub bounds-packed-w-in-loop-i : goal.bounds-packed-w-in-loop-i
 bounds-packed-w-in-loop-i c = omega (arith, c.place_within-w.ensures.1)
 
-pub overflow_add-i : goal.overflow_add-i
-overflow_add-i c = omega (arith, one_more (goal.at.overflow_add-i c).After-one_if-one)
-
 pub shape_of-seen : goal.shape_of-seen
-shape_of-seen c = c.loop-i.invariant.3
+shape_of-seen c = c.loop-i.invariant.as_long

@@ -8,15 +8,15 @@ use Rattle.check_packing.proofs.columns.place_of.Goals as goal
 
 pub loop-k-init : goal.loop-k-init
 unfolding place_below
-loop-k-init c = (omega arith, refl)
+loop-k-init c = refl
 
 pub returns-then-ids-k : goal.returns-then-ids-k
-returns-then-ids-k c = sym (place_hit _ _ c.loop-k.k _ (omega arith) c.loop-k.invariant.1 c.if-ids-k.true)
+returns-then-ids-k c = sym (place_hit _ _ c.loop-k.k _ (omega arith) c.loop-k.invariant c.if-ids-k.true)
 
 pub loop-k-preserved : goal.loop-k-preserved
-loop-k-preserved c = (omega arith, rw add-one (place_miss _ _ c.loop-k.k c.loop-k.invariant.1 c.if-ids-k.false))
+loop-k-preserved c = rw add-one (place_miss _ _ c.loop-k.k c.loop-k.invariant c.if-ids-k.false)
 
 pub returns : goal.returns
 returns c =
     let e : c.loop-k.k ≡ c.args.m = omega arith in
-    sym (rw (← e) c.loop-k.invariant.1)
+    sym (rw e at c.loop-k.invariant)

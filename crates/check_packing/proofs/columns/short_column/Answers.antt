@@ -8,13 +8,13 @@ use Rattle.check_packing.proofs.columns.short_column.Goals as goal
 
 pub loop-k-init : goal.loop-k-init
 unfolding filled
-loop-k-init c = (omega arith, refl)
+loop-k-init c = refl
 
 pub loop-k-preserved : goal.loop-k-preserved
 unfolding filled short_in
-loop-k-preserved c = (omega arith, rw add-one (cc))
+loop-k-preserved c = rw add-one (cc)
 
 pub returns : goal.returns
 returns c =
     let e : c.loop-k.k ≡ c.args.m = omega arith in
-    rw e at c.loop-k.invariant.1
+    rw e at c.loop-k.invariant

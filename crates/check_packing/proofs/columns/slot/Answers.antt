@@ -4,8 +4,8 @@ use Rattle.check_packing.proofs.columns.slot.Goals as goal
 
 pub returns-then-counts-at : goal.returns-then-counts-at
 unfolding slot_of
-returns-then-counts-at c = rw c.if-counts-at.true
+returns-then-counts-at c = rw (← c.from.ensures, ← c.from-2.ensures, c.if-counts-at.true)
 
 pub returns : goal.returns
 unfolding slot_of
-returns c = rw c.if-counts-at.false
+returns c = rw (← c.from.ensures, ← c.from-2.ensures, c.if-counts-at.false)

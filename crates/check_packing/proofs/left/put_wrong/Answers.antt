@@ -16,7 +16,7 @@ use Rattle.check_packing.proofs.left.put_wrong.Goals.{In-loop-i}
 
 pub loop-i-init : goal.loop-i-init
 unfolding all_below
-loop-i-init c = (omega arith, omega arith, listed_start _ (sound _ _ c.requires.0), wrote_none _ _)
+loop-i-init c = record { few = omega arith; listed = listed_start _ (sound _ _ c.requires.0); words = wrote_none _ _ }
 
 pub place_of-w-requires : goal.place_of-w-requires
 place_of-w-requires c = few_kinds _ _ c.requires.0
@@ -34,23 +34,23 @@ loop-i-preserved c =
     let e = c.unplaced_in-id.ensures ∙ unplaced_is _ _ _ t.can_read t.end_is (rw t.unplaced_are at c.loop-i-test.true) in
     let w = place_read _ _ t _ c.requires.1.0 _ _ c.place_of-w.ensures ∙ ap (kind_of g) e in
     let k = c.place_within-k.ensures.0 in
-    let more = listed_more g (sound _ _ t) c.loop-i.i c.loop-i.seen v.2 c.place_of-w.result c.place_within-k.result w k in
-    let words = wrong_is g (sound _ _ t) c.loop-i.i c.loop-i.seen v.2 c.place_of-w.result c.place_within-k.result w k c.args.short.now
+    let more = listed_more g (sound _ _ t) c.loop-i.i c.loop-i.seen v.listed c.place_of-w.result c.place_within-k.result w k in
+    let words = wrong_is g (sound _ _ t) c.loop-i.i c.loop-i.seen v.listed c.place_of-w.result c.place_within-k.result w k c.args.short.now
     (rw m at c.requires.1.1.0) in
-    let put = c.put_if-p.ensures in (
-      omega arith,
-      omega (arith, v.1, put.few),
-      rw (add-one, m) more,
-      wrote_more _ _ v.3 (rw words at (rw (e, m) at (put.within (omega (arith, v.0, v.1, u, c.requires.1.1.1, c.loop-i-test.true))))),
-    )
+    let put = c.put_if-p.ensures in
+    record {
+      few = omega (arith, v.few, put.few);
+      listed = rw (add-one, m) more;
+      words = wrote_more _ _ v.words (rw words at (rw (e, m) at (put.within (omega (arith, v.few, u, c.requires.1.1.1, c.loop-i-test.true)))));
+    }
 
 pub shape_of-out : goal.shape_of-out
-shape_of-out c = wrote_length c.loop-i.invariant.3
+shape_of-out c = wrote_length c.loop-i.invariant.words
 
 pub returns : goal.returns
 returns c =
     let e : c.loop-i.i ≡ c.args.a.unplaced = omega arith in
-    record { words = rw e at c.loop-i.invariant.3; few = rw e at c.loop-i.invariant.1 }
+    record { words = rw e at c.loop-i.invariant.words; few = rw e at c.loop-i.invariant.few }
 
 pub bounds-short-k : goal.bounds-short-k
 bounds-short-k c = omega (arith, c.place_within-k.ensures.1)
@@ -63,6 +63,3 @@ bounds-seen-k-in-loop-i c = omega (arith, c.place_within-k.ensures.1)
 
 pub bounds-seen-k-in-loop-i-2 : goal.bounds-seen-k-in-loop-i-2
 bounds-seen-k-in-loop-i-2 c = omega (arith, c.place_within-k.ensures.1)
-
-pub overflow_add-i : goal.overflow_add-i
-overflow_add-i c = omega (arith, inside (goal.at.overflow_add-i c).In-loop-i)

@@ -2,6 +2,7 @@
 use mathlib.Core.Path.{◌≡◌}
 use mathlib.Core.List.{List}
 use Prim.Native.Nat.{ℕ}
+use native.Mathlib.Omega.{arith}
 use Rattle.measures.specs.declared.Kind.{Kind}
 use Rattle.measures.specs.declared.Container.{Container}
 use Rattle.sheet.specs.declared.Counts.{Counts}
@@ -9,7 +10,8 @@ use Rattle.sheet.specs.declared.Line.{Line}
 use Rattle.sheet.specs.declared.Sheet.{Sheet}
 use Rattle.sheet.specs.Accepted.{Few}
 use Rattle.file_read.specs.Form.{counts_of, lines_start, unplaced_start}
-use Rattle.file_read.specs.Reading.{container_from, kinds_of, lines_of, ids_of, sheet_of}
+use Rattle.lists.specs.Table.{filled}
+use Rattle.file_read.specs.Reading.{kinds_by, lines_by, ids_by, container_from, kinds_of, lines_of, ids_of, sheet_of}
 use Rattle.file_read.specs.Records.{bounds}
 use Rattle.file_read.specs.Shaped.{Within, within}
 use Rattle.file_read.proofs.read.sheet_of.Goals as goal
@@ -28,25 +30,23 @@ sheet_is : (f : List ℕ) (m : Counts) (c : Container) (ks : List Kind) (ls : Li
 unfolding sheet_of counts_of
 sheet_is f m c ks ls is em ec ek el eu = rw (ec, ek, el, eu, em)
 
-pub kinds_of-kinds-requires : goal.kinds_of-kinds-requires
-kinds_of-kinds-requires c =
-    let s = c.before.before in
-    ((counts_few (goal.at.kinds_of-kinds-requires c).Start).kinds, (inside (goal.at.kinds_of-kinds-requires c).Start).kinds_in)
+pub table_of-kinds-requires : goal.table_of-kinds-requires
+table_of-kinds-requires c =
+    let s = (goal.at.table_of-kinds-requires c).Start in
+    (omega arith, ((counts_few s).kinds, (inside s).kinds_in))
 
-pub lines_of-lines-requires : goal.lines_of-lines-requires
-lines_of-lines-requires c =
-    let s = c.before.before.before in
-    ((counts_few (goal.at.lines_of-lines-requires c).Start).lines, rw s.requires.1.1.0 (inside (goal.at.lines_of-lines-requires c).Start).lines_in)
+pub table_of-lines-requires : goal.table_of-lines-requires
+table_of-lines-requires c =
+    let s = (goal.at.table_of-lines-requires c).Start in
+    (omega arith, ((counts_few s).lines, rw c.requires.1.1.0 (inside s).lines_in))
 
-pub ids_of-unplaced-requires : goal.ids_of-unplaced-requires
-ids_of-unplaced-requires c =
-    let s = c.before.before.before.before in
-    ((counts_few (goal.at.ids_of-unplaced-requires c).Start).unplaced, rw s.requires.1.1.1 (inside (goal.at.ids_of-unplaced-requires c).Start).ids_in)
+pub table_of-unplaced-requires : goal.table_of-unplaced-requires
+table_of-unplaced-requires c =
+    let s = (goal.at.table_of-unplaced-requires c).Start in
+    (omega arith, ((counts_few s).unplaced, rw c.requires.1.1.1 (inside s).ids_in))
 
 pub returns : goal.returns
+unfolding kinds_by lines_by ids_by filled
 returns c =
-    let l = c.before in
-    let k = l.before in
-    let s = k.before.before.before in
-    sheet_is _ _ _ _ _ _ s.requires.1.0 k.container_at-container.ensures k.kinds_of-kinds.ensures (rw s.requires.1.1.0 at l.lines_of-lines.ensures)
-    (rw s.requires.1.1.1 at c.ids_of-unplaced.ensures)
+    sheet_is _ _ _ _ _ _ c.requires.1.0 c.container_at-container.ensures (rw c.blank_kind.ensures at c.table_of-kinds.ensures)
+    (rw (c.requires.1.1.0, c.blank_line.ensures) at c.table_of-lines.ensures) (rw c.requires.1.1.1 at c.table_of-unplaced.ensures)

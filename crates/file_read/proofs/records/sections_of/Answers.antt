@@ -18,20 +18,20 @@ file c = c.args.f.now
 -- the trailer's numbers
 numbers : (c : After-is_placed)
     → trailer_of (file c)
-    ≡ c.size-k.result
-    ∷ c.size-l.result
-    ∷ c.size-u.result
-    ∷ c.size-t.result
+    ≡ c.u32_at-k.result
+    ∷ c.u32_at-l.result
+    ∷ c.u32_at-u.result
+    ∷ c.u32_at-t.result
     ∷ c.u16_at-form.result
     ∷ c.byte_at-a.result
     ∷ c.byte_at-b.result
     ∷ []
 numbers c =
     trailer_is (file c) _ _ _ _ _ _ _
-    (c.size-k.ensures ∙ c.u32_at.ensures)
-    (c.size-l.ensures ∙ c.u32_at-2.ensures)
-    (c.size-u.ensures ∙ c.u32_at-3.ensures)
-    (c.size-t.ensures ∙ c.u32_at-4.ensures)
+    c.u32_at-k.ensures
+    c.u32_at-l.ensures
+    c.u32_at-u.ensures
+    c.u32_at-t.ensures
     c.u16_at-form.ensures
     c.byte_at-a.ensures
     c.byte_at-b.ensures
@@ -45,7 +45,7 @@ first_right p w r e h = sym e ∙ rw h
 
 -- the shape by the two tests
 abbrev wholly : After-is_placed → Bool
-wholly c = whole c.size-l.result c.size-u.result c.size-t.result
+wholly c = whole c.u32_at-l.result c.u32_at-u.result c.u32_at-t.result
 
 shape : (c : After-is_placed) → (c.is_placed.result && wholly c) ≡ right_shape (file c)
 shape c = shape_is (file c) _ _ _ _ _ _ _ _ c.if-n-lt-TRAILER.false (numbers c) c.is_placed.ensures
@@ -58,16 +58,16 @@ well_placed c = first_right c.is_placed.result (wholly c) (right_shape (file c))
 
 right_place : (c : After-is_placed)
     → c.is_placed.result ≡ true
-    → Placed (length (file c)) c.size-k.result c.size-l.result c.size-u.result c.size-t.result c.u16_at-form.result c.byte_at-a.result c.byte_at-b.result
+    → Placed (length (file c)) c.u32_at-k.result c.u32_at-l.result c.u32_at-u.result c.u32_at-t.result c.u16_at-form.result c.byte_at-a.result c.byte_at-b.result
 right_place c h = placed_says _ _ _ _ _ _ _ _ (sym c.is_placed.ensures ∙ h)
 
 pub returns-then-n-lt-TRAILER : goal.returns-then-n-lt-TRAILER
 unfolding right_shape
-returns-then-n-lt-TRAILER c = c.no_sections.ensures ∙ wrong_sections _ (rw (lt-leb _ _ c.if-n-lt-TRAILER.true))
+returns-then-n-lt-TRAILER c = wrong_sections _ (rw (lt-leb _ _ c.if-n-lt-TRAILER.true))
 
 pub returns-then-not-is_placed : goal.returns-then-not-is_placed
 returns-then-not-is_placed c =
-    c.no_sections-then-not-is_placed.ensures ∙ wrong_sections _ (misplaced (goal.at.returns-then-not-is_placed c).After-is_placed c.if-not-is_placed.true)
+    wrong_sections _ (misplaced (goal.at.returns-then-not-is_placed c).After-is_placed c.if-not-is_placed.true)
 
 pub is_whole-requires : goal.is_whole-requires
 is_whole-requires c =
@@ -76,8 +76,7 @@ is_whole-requires c =
 
 pub returns-then-not-is_whole : goal.returns-then-not-is_whole
 returns-then-not-is_whole c =
-    c.no_sections-then-not-is_whole.ensures
-    ∙ wrong_sections _ (well_placed (goal.at.returns-then-not-is_whole c).After-is_placed c.if-not-is_placed.false ∙ sym c.is_whole.ensures ∙ c.if-not-is_whole.true)
+    wrong_sections _ (well_placed (goal.at.returns-then-not-is_whole c).After-is_placed c.if-not-is_placed.false ∙ sym c.is_whole.ensures ∙ c.if-not-is_whole.true)
 
 pub overflow_sub-many : goal.overflow_sub-many
 overflow_sub-many c = let h = right_place (goal.at.overflow_sub-many c).After-is_placed c.if-not-is_placed.false in omega arith

@@ -12,10 +12,10 @@ unfolding trailer_out trailer_numbers fields_out
 returns c =
     let r = c.requires.1 in
     then (put_none _ _) refl (omega (arith, r))
-    (then (put word _ (rw c.short.ensures at c.put_u32.ensures) (omega (arith, r))) (bytes_length word _) (omega (arith, r))
-    (then (put word _ (rw c.short-2.ensures at c.put_u32-2.ensures) (omega (arith, r))) (bytes_length word _) (omega (arith, r))
-    (then (put word _ (rw c.short-3.ensures at c.put_u32-3.ensures) (omega (arith, r))) (bytes_length word _) (omega (arith, r))
-    (then (put word _ (rw c.short-4.ensures at c.put_u32-4.ensures) (omega (arith, r))) (bytes_length word _) (omega (arith, r))
+    (then (put word _ c.put_u32.ensures (omega (arith, r))) (bytes_length word _) (omega (arith, r))
+    (then (put word _ c.put_u32-2.ensures (omega (arith, r))) (bytes_length word _) (omega (arith, r))
+    (then (put word _ c.put_u32-3.ensures (omega (arith, r))) (bytes_length word _) (omega (arith, r))
+    (then (put word _ c.put_u32-4.ensures (omega (arith, r))) (bytes_length word _) (omega (arith, r))
     (then (put half _ c.put_u16.ensures (omega (arith, r))) (bytes_length half _) (omega (arith, r))
     (then (put byte _ c.put_byte.ensures (omega (arith, r))) (bytes_length byte _) (omega (arith, r))
     (then (put byte _ c.put_byte-2.ensures (omega (arith, r))) (bytes_length byte _) refl (put_none _ _))))))))

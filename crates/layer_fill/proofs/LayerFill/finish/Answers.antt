@@ -1,5 +1,12 @@
--- `LayerFill::finish` meets its contract: each field is that of the call it comes from.
+-- `LayerFill::finish` meets its contract: the fill is refused, or tells what it holds.
+use Rattle.std.proofs.lemmas.Result.{err_from_is_err_and}
+use Rattle.domain.specs.Refusal.{refused_as, no_number, no_refusal}
 use Rattle.layer_fill.proofs.LayerFill.finish.Goals as goal
 
+pub returns-in_err-refuse : goal.returns-in_err-refuse
+returns-in_err-refuse c =
+    let p = err_from_is_err_and c.from_residual.result c.from_residual.ensures.1 in
+    rw (p.1, p.2) (refused_as _ 0 tt _ _ c.in_err-refuse.ensures)
+
 pub returns : goal.returns
-returns c = rw (c.utilization-ratio.ensures, c.placed-count.ensures)
+returns c = rw c.utilization.ensures (no_number _ 0 _ (no_refusal _ 0 tt tt c.in_ok-refuse.ensures))

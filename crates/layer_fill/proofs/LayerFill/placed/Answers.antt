@@ -1,9 +1,12 @@
--- `LayerFill::placed` meets its contract, by the test that led to each return.
-use borrow.Author.Tests.{lt-ltb, le-ltb}
+-- `LayerFill::placed` meets its contract: the fill is refused, or tells its count.
+use Rattle.std.proofs.lemmas.Result.{err_from_is_err_and}
+use Rattle.domain.specs.Refusal.{refused_as, no_number, no_refusal}
 use Rattle.layer_fill.proofs.LayerFill.placed.Goals as goal
 
-pub returns-then-self-gt-MOST_BOXES : goal.returns-then-self-gt-MOST_BOXES
-returns-then-self-gt-MOST_BOXES c = rw (lt-ltb _ _ c.if-self-gt-MOST_BOXES.true)
+pub returns-in_err-refuse : goal.returns-in_err-refuse
+returns-in_err-refuse c =
+    let p = err_from_is_err_and c.from_residual.result c.from_residual.ensures.1 in
+    rw (p.1, p.2) (refused_as _ 0 tt _ _ c.in_err-refuse.ensures)
 
 pub returns : goal.returns
-returns c = rw (le-ltb _ _ c.if-self-gt-MOST_BOXES.false)
+returns c = (no_number _ 0 _ (no_refusal _ 0 tt tt c.in_ok-refuse.ensures))

@@ -1,19 +1,13 @@
 -- `items::lay_each` meets its contract: a turn of the loop is a turn of the definition.
-use Prim.Native.Nat.{◌≤◌, ◌-◌}
+use Prim.Native.Nat.{◌≤◌}
 use Rattle.file_read.specs.Reading.{sheet_of}
 use Rattle.layer_fill.specs.Fill.{empty}
 use Rattle.layer_plan.specs.Run.{run_from}
 use Rattle.layer_plan.specs.Offers.{item_offer}
-use Rattle.sheet.specs.Columns.{columns}
-use Rattle.layer_plan.specs.Columns.{Holds}
+use Rattle.layer_plan.specs.Shown.{Holds}
 use Rattle.layer_plan.proofs.items.lay_each.Given as goal
 
 abbrev pub invariant-loop-j : goal.invariant-loop-j
 invariant-loop-j l =
-    (l.j ≤ l.n)
-    × (l.held ≤ l.j)
-    × Holds (run_from (empty l.initial.stand.container) (sheet_of l.f).kinds (item_offer l.records l.items) l.j) l.stand l.held
-    (columns l.initial.ids l.initial.instances l.initial.turns l.initial.spots) (columns l.ids l.instances l.turns l.spots)
-
-abbrev pub decreases-loop-j : goal.decreases-loop-j
-decreases-loop-j l = l.n - l.j
+    (l.held ≤ l.j)
+    × Holds (run_from (empty l.initial.stand.container) (sheet_of l.f).kinds (item_offer l.records l.items) l.j) l.stand l.held l.initial.lines l.lines

@@ -1,22 +1,16 @@
 -- `order::lay_boxes` meets its contract: a turn of the loop is a turn of the definition.
-use Prim.Native.Nat.{◌≤◌, ◌-◌}
+use Prim.Native.Nat.{◌≤◌}
 use mathlib.Core.Path.{◌≡◌}
 use Rattle.file_read.specs.Reading.{sheet_of}
 use Rattle.plan_boxes.specs.Turns.{turn_of}
 use Rattle.layer_fill.specs.Fill.{empty}
 use Rattle.layer_plan.specs.Run.{run_from}
 use Rattle.layer_plan.specs.Offers.{best_offer}
-use Rattle.sheet.specs.Columns.{columns}
-use Rattle.layer_plan.specs.Columns.{Holds}
+use Rattle.layer_plan.specs.Shown.{Holds}
 use Rattle.layer_plan.proofs.order.lay_boxes.Given as goal
 
 abbrev pub invariant-loop-t : goal.invariant-loop-t
 invariant-loop-t l =
-    (l.t ≤ l.n)
-    × (l.held ≤ l.t)
+    (l.held ≤ l.t)
     × (l.u ≡ turn_of (sheet_of l.f).kinds l.t)
-    × Holds (run_from (empty l.initial.stand.container) (sheet_of l.f).kinds (best_offer (sheet_of l.f).kinds) l.t) l.stand l.held
-    (columns l.initial.ids l.initial.instances l.initial.turns l.initial.spots) (columns l.ids l.instances l.turns l.spots)
-
-abbrev pub decreases-loop-t : goal.decreases-loop-t
-decreases-loop-t l = l.n - l.t
+    × Holds (run_from (empty l.initial.stand.container) (sheet_of l.f).kinds (best_offer (sheet_of l.f).kinds) l.t) l.stand l.held l.initial.lines l.lines

@@ -1,5 +1,5 @@
 -- `plan_unplaced::in_file::flags_in` meets its contract: a turn of the loop stores the flag of one kind more.
-use mathlib.Core.Path.{◌≡◌, refl}
+use mathlib.Core.Path.{refl}
 use native.Mathlib.Omega.{arith}
 use native.Mathlib.Numerals.{add-one}
 use Rattle.lists.specs.Table.{filled}
@@ -9,7 +9,7 @@ use Rattle.plan_unplaced.proofs.in_file.flags_in.Goals as goal
 
 pub loop-k-init : goal.loop-k-init
 unfolding filled
-loop-k-init c = (omega arith, refl)
+loop-k-init c = refl
 
 pub loop-k-preserved : goal.loop-k-preserved
 unfolding filled short_kind
@@ -18,7 +18,4 @@ loop-k-preserved c =
     let a = c.args in
     let e = c.kind_in-kind.ensures in
     let q = kind_in_at a.f.now a.m l.k (omega arith) (omega arith) in
-    (omega arith, rw (c.is_short.ensures, e, add-one, q, l.invariant.1))
-
-pub returns : goal.returns
-returns c = let e : c.loop-k.k ≡ c.args.m = omega arith in rw e at c.loop-k.invariant.1
+    rw (c.is_short.ensures, e, add-one, q, l.invariant)

@@ -1,5 +1,4 @@
 -- `plan_unplaced::in_file::flags_in` meets its contract: a turn of the loop stores the flag of one kind more.
-use Prim.Native.Nat.{◌≤◌, ◌-◌}
 use mathlib.Core.Path.{◌≡◌}
 use mathlib.Core.Bool.{false}
 use Rattle.lists.specs.Table.{table}
@@ -9,7 +8,4 @@ use Rattle.plan_unplaced.specs.InFile.{kinds_in}
 use Rattle.plan_unplaced.proofs.in_file.flags_in.Given as goal
 
 abbrev pub invariant-loop-k : goal.invariant-loop-k
-invariant-loop-k l = (l.k ≤ l.m) × (l.flags ≡ table false most_kinds (short_kind (kinds_in l.f l.m) l.ids l.instances l.n) l.k)
-
-abbrev pub decreases-loop-k : goal.decreases-loop-k
-decreases-loop-k l = l.m - l.k
+invariant-loop-k l = l.flags ≡ table false most_kinds (short_kind (kinds_in l.f l.m) l.lines l.n) l.k

@@ -1,29 +1,24 @@
 -- `plan_unplaced::in_file::unplaced_list` meets its contract: the file's refusal, or what its own lines leave.
-use mathlib.Core.Path.{sym, ◌∙◌, ap}
-use Rattle.file_accept.specs.declared.Accepted.{Accepted}
-use Rattle.file_accept.specs.Accept.{Taken, taken, refusal_is}
-use Rattle.plan_unplaced.specs.InFile.{names_long, unplaced_refused, unplaced_is}
+use Rattle.std.proofs.Common.{◌∙◌}
+use Rattle.std.proofs.lemmas.Result.{err_from_is_err_and}
+use Rattle.domain.specs.Refusal.{refused_as}
+use Rattle.file_accept.specs.Accept.{Taken, taken}
+use Rattle.plan_unplaced.specs.InFile.{file_unplaced, unplaced_is}
 use Rattle.plan_unplaced.proofs.in_file.unplaced_list.Goals as goal
-use Rattle.plan_unplaced.proofs.in_file.unplaced_list.Goals.{After-accept-a, Else-a-ne0}
+use Rattle.plan_unplaced.proofs.in_file.unplaced_list.Goals.{In_ok-a}
 
-pub returns-then-a-ne0 : goal.returns-then-a-ne0
-returns-then-a-ne0 c =
-    c.no_left.ensures
-    ∙ unplaced_refused _ _ (sym (refusal_is _) ∙ sym (ap (λ (v : Accepted). v.refused) c.accept-a.ensures)) c.if-a-ne0.true
+pub returns-in_err-a : goal.returns-in_err-a
+unfolding file_unplaced
+returns-in_err-a c =
+    let p = err_from_is_err_and c.from_residual.result c.from_residual.ensures.1 in rw (p.1, p.2) (refused_as _ 0 _ _ _ c.in_err-a.ensures)
 
-known : (c : Else-a-ne0) → Taken c.args.file.now c.accept-a.result
-known c = taken _ _ c.accept-a.ensures c.if-a-ne0.false
+known : (c : In_ok-a) → Taken c.args.file.now c.in_ok-a.a
+known c = taken _ _ c.in_ok-a.ensures
 
-pub line_names-requires : goal.line_names-requires
-line_names-requires c = known (goal.at.line_names-requires c).Else-a-ne0
+pub put_lines-requires : goal.put_lines-requires
+put_lines-requires c = known (goal.at.put_lines-requires c).In_ok-a
 
 pub returns : goal.returns
 returns c =
-    let t = known (goal.at.returns c).Else-a-ne0 in
-    c.left_in.ensures ∙ unplaced_is _ t.sound _ _ t.can_read t.kinds_are t.lines_are _ _ c.line_names.ensures
-
-pub slice_bounds-left_in-end : goal.slice_bounds-left_in-end
-slice_bounds-left_in-end c = sym (names_long c.line_names.ensures).0
-
-pub slice_bounds-left_in-end-2 : goal.slice_bounds-left_in-end-2
-slice_bounds-left_in-end-2 c = sym (names_long c.line_names.ensures).1
+    let t = known (goal.at.returns c).In_ok-a in
+    c.left_in.ensures ∙ unplaced_is _ t.sound _ _ t.can_read t.kinds_are t.lines_are _ (rw c.blank_line-lines.ensures at c.put_lines.ensures)

@@ -11,4 +11,4 @@ returns-then-hint-n c = rw (le-ltb _ _ c.if-hint-n.true)
 
 pub returns : goal.returns
 unfolding blocks
-returns c = rw (lt-ltb _ _ c.if-hint-n.false) (ap not c.apart_from.ensures)
+returns c = rw (lt-ltb _ _ c.if-hint-n.false) (ap not c.apart_by.ensures)

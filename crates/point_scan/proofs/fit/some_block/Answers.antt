@@ -6,7 +6,7 @@ use Rattle.point_scan.proofs.fit.some_block.Goals as goal
 
 pub returns-then-blocks : goal.returns-then-blocks
 unfolding block_of
-returns-then-blocks c = rw (rw c.wide.ensures at (sym c.blocks-2.ensures ∙ c.if-blocks.true))
+returns-then-blocks c = rw (rw c.from.ensures at (sym c.blocks-2.ensures ∙ c.if-blocks.true))
 
 pub overflow_cast-result : goal.overflow_cast-result
 overflow_cast-result c =
@@ -17,6 +17,4 @@ overflow_cast-result c =
 
 pub returns : goal.returns
 unfolding block_of
-returns c =
-    let b = c.before.before in
-    rw (rw b.wide.ensures at (sym b.blocks-2.ensures ∙ c.if-blocks.false)) c.first_block.ensures
+returns c = rw (rw c.from.ensures at (sym c.blocks-2.ensures ∙ c.if-blocks.false)) c.first_block.ensures

@@ -21,23 +21,5 @@ pub returns : goal.returns
 unfolding spare
 returns c = rw (fair c)
 
-pub overflow_mul-end : goal.overflow_mul-end
-overflow_mul-end c = let h = (within c).room in omega arith
-
-pub overflow_add-end : goal.overflow_add-end
-overflow_add-end c = let h = (within c).room in omega arith
-
-pub overflow_mul-end-2 : goal.overflow_mul-end-2
-overflow_mul-end-2 c = let h = (within c).room in omega arith
-
-pub overflow_add-end-2 : goal.overflow_add-end-2
-overflow_add-end-2 c = let h = (within c).room in omega arith
-
 pub overflow_add-result : goal.overflow_add-result
 overflow_add-result c = let h = (within c).room in let f = (within c).few in omega arith
-
-pub overflow_mul-result : goal.overflow_mul-result
-overflow_mul-result c = let h = (within c).room in let f = (within c).few in omega arith
-
-pub overflow_add-result-2 : goal.overflow_add-result-2
-overflow_add-result-2 c = let h = (within c).room in let f = (within c).few in omega arith

@@ -1,7 +1,0 @@
--- `is_spanned` meets its contract, axis by axis.
-use Rattle.check_pair.specs.Span.{spans}
-use Rattle.check_pair.proofs.is_spanned.Goals as goal
-
-pub returns : goal.returns
-unfolding spans
-returns c = cc

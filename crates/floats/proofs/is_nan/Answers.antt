@@ -1,8 +1,0 @@
--- `floats::is_nan` meets its contract, by the library's law that a NaN's pattern is one above infinity's.
-use mathlib.Core.Path.{sym}
-use lib.Ieee.{binary64}
-use lib.Ieee.Bits.{nan_bits_above}
-use Rattle.floats.proofs.is_nan.Goals as goal
-
-pub returns : goal.returns
-returns c = sym (nan_bits_above binary64 c.args.b)

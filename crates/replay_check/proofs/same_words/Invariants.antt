@@ -1,9 +1,0 @@
--- `replay_check::same_words` is safe and ends: the words that are left get fewer.
-use Prim.Native.Nat.{◌-◌}
-use Rattle.replay_check.proofs.same_words.Given as goal
-
-abbrev pub invariant-loop-i : goal.invariant-loop-i
-invariant-loop-i l = Unit {0}
-
-abbrev pub decreases-loop-i : goal.decreases-loop-i
-decreases-loop-i l = l.n - l.i

@@ -1,8 +1,0 @@
--- `replay_layers::fills::fill_in` is safe: the part that it lends has the length asked.
-use mathlib.Core.Path.{sym}
-use native.Mathlib.Omega.{arith}
-use lib.Seq.{length-take-le}
-use Rattle.replay_layers.proofs.fills.fill_in.Goals as goal
-
-pub slice_bounds-layer_fill_in_order-end-then-n-out : goal.slice_bounds-layer_fill_in_order-end-then-n-out
-slice_bounds-layer_fill_in_order-end-then-n-out c = sym (length-take-le _ _ (omega arith))

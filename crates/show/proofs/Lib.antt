@@ -1,0 +1,2 @@
+-- What the proofs of the crate show share.
+pub mod Places
