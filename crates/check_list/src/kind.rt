@@ -13,7 +13,7 @@ pub(crate) fn put_mass(out: &mut [u64], at: usize, mass: f64, limit: f64, t: f64
     ensures { Wrote out.old at (mass_words mass limit t) result out.new × (result ≤ at + 5) }
 {
     let over = (0.0 < limit) & (limit + t < mass);
-    check_words::put_if(out, at, over, Finding::Overweight { mass, limit })
+    Finding::Overweight { mass, limit }.write_if(out, at, over)
 }
 
 // What the first m kinds get: one that is short and not listed.
@@ -32,7 +32,7 @@ pub(crate) fn put_missing(
     let mut p = at;
     for k in 0..m {
         let lost = short[k] & !listed[k];
-        p = check_words::put_if(out, p, lost, Finding::Missing { id: ids[k] });
+        p = Finding::Missing { id: ids[k] }.write_if(out, p, lost);
     }
     p
 }

@@ -40,28 +40,20 @@ fn put_name(
     ensures { Wrote out.old at (name_words i l known k ++ repeat_words i l again) result out.new × (result ≤ at + 15) }
 {
     let far = known & !(l.instance < k.quantity);
-    let p = check_words::put_if(out, at, !known, Finding::Unknown { line: i, id: l.id });
-    let q = check_words::put_if(
-        out,
-        p,
-        far,
-        Finding::OutOfRange {
-            line: i,
-            id: l.id,
-            instance: l.instance,
-            quantity: k.quantity,
-        },
-    );
-    check_words::put_if(
-        out,
-        q,
-        again,
-        Finding::Repeated {
-            line: i,
-            id: l.id,
-            instance: l.instance,
-        },
-    )
+    let p = Finding::Unknown { line: i, id: l.id }.write_if(out, at, !known);
+    let q = Finding::OutOfRange {
+        line: i,
+        id: l.id,
+        instance: l.instance,
+        quantity: k.quantity,
+    }
+    .write_if(out, p, far);
+    Finding::Repeated {
+        line: i,
+        id: l.id,
+        instance: l.instance,
+    }
+    .write_if(out, q, again)
 }
 
 // 4 orientation, 5 bin, 6 outside.
@@ -83,26 +75,18 @@ fn put_place(
     let turned = known & (measures::allowed_orientations(k.rule) <= index);
     let elsewhere = known & (0 < l.bin);
     let outside = known & !inside(c, t, e);
-    let p = check_words::put_if(
-        out,
-        at,
-        turned,
-        Finding::Turned {
-            line: i,
-            id: l.id,
-            orientation: l.orientation,
-        },
-    );
-    let q = check_words::put_if(
-        out,
-        p,
-        elsewhere,
-        Finding::Elsewhere {
-            line: i,
-            bin: l.bin,
-        },
-    );
-    check_words::put_if(out, q, outside, Finding::Outside { line: i, id: l.id })
+    let p = Finding::Turned {
+        line: i,
+        id: l.id,
+        orientation: l.orientation,
+    }
+    .write_if(out, at, turned);
+    let q = Finding::Elsewhere {
+        line: i,
+        bin: l.bin,
+    }
+    .write_if(out, p, elsewhere);
+    Finding::Outside { line: i, id: l.id }.write_if(out, q, outside)
 }
 
 // What the lines get, one after the other.

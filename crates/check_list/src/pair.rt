@@ -61,18 +61,14 @@ fn put_verdict(
 {
     match v {
         Verdict::Apart => at,
-        Verdict::Overlap => check_words::put_if(out, at, known, Finding::Overlap { first, second }),
-        Verdict::TooClose(distance) => check_words::put_if(
-            out,
-            at,
-            known,
-            Finding::TooClose {
-                first,
-                second,
-                distance,
-                asked,
-            },
-        ),
+        Verdict::Overlap => Finding::Overlap { first, second }.write_if(out, at, known),
+        Verdict::TooClose(distance) => Finding::TooClose {
+            first,
+            second,
+            distance,
+            asked,
+        }
+        .write_if(out, at, known),
     }
 }
 

@@ -8,7 +8,8 @@ use Rattle.sheet.specs.declared.Line.{Line}
 use Rattle.sheet.specs.declared.Sheet.{Sheet}
 use Rattle.sheet.specs.Sheets.{no_kind, no_line, kind_at, line_at, unplaced_at, sheet_refusal}
 use Rattle.sheet.specs.Accepted.{Accepted, accepted}
-use Rattle.check_packing.specs.Check.{check_refusal}
+use Rattle.domain.specs.Numbers.{number_in}
+use Rattle.check_packing.specs.Check.{checked_of}
 use Rattle.check_order.specs.Demand.{lines_of, Reordered, Renumbered, pick, change, own_of, pair_of, line_aside, lines_aside, SameFindings, written}
 use Rattle.check_order.specs.Below.{three_ways}
 use Rattle.check_order.specs.Reordered.{other, as_other, renumbered}
@@ -95,7 +96,8 @@ pub order_of_lines_permuted : (s t : Sheet) (r : Reordered s t) → SameFindings
 order_of_lines_permuted s t r = order_of_lines s t r (renumbered s t r)
 
 -- Demand 3 over the call: whatever two calls write that are not refused, and so had room lent for all findings, stands in that relation.
-pub order_of_lines_written : (s t : Sheet) (o q : List ℕ) → Reordered s t → (p : Renumbered s t) → check_refusal s o ≡ 0 → check_refusal t q ≡ 0
+pub order_of_lines_written : (s t : Sheet) (o q : List ℕ) → Reordered s t → (p : Renumbered s t)
+    → number_in (checked_of s o) ≡ 0 → number_in (checked_of t q) ≡ 0
     → SameFindings s p.to (written s o) (written t q)
 order_of_lines_written s t o q r p h k =
     subst (λ (v : List ℕ). SameFindings s p.to v (written t q)) (sym (written_findings s o h))

@@ -2,13 +2,15 @@
 -- "Take two accepted sheets that differ only in the order of their placement lines, with room lent for all findings. By demand 2's meaning, each line gets
 -- the same findings of its own, line numbers and repeats aside; each pair gets the same finding and the same distance; each kind and instance is called
 -- repeated equally often; the findings on unplaced kinds come out identical. If all masses are whole numbers, the mass finding is identical too."
-use Rattle.std.specs.Prelude.{◌≡◌, ◌⊎◌, Bool, true, false, ◌&&◌, ◌||◌, ℕ, ◌*◌, ◌<◌, eqb, length, take}
+use Rattle.std.specs.Prelude.{◌≡◌, ◌⊎◌, Bool, true, false, ◌&&◌, ◌||◌, ℕ, ◌*◌, ◌<◌, eqb, length, take, Result, Ok, Err}
 use mathlib.Core.List.{List, [], ◌∷◌, ◌++◌, Permᴰ}
 use Rattle.floats.specs.Whole.{Whole}
 use Rattle.sheet.specs.declared.Line.{Line}
 use Rattle.sheet.specs.declared.Sheet.{Sheet}
 use Rattle.sheet.specs.Sheets.{kind_at, line_at, unplaced_at, sheet_refusal}
-use Rattle.check_packing.specs.Check.{count_of, cells_of}
+use Rattle.domain.specs.declared.Refusal.{Refusal}
+use Rattle.domain.specs.Refusal.{needed_of}
+use Rattle.check_packing.specs.Check.{checked_of, cells_of}
 use Rattle.check_words.specs.Words.{only_if}
 
 -- ---- "two accepted sheets that differ only in the order of their placement lines"
@@ -139,6 +141,11 @@ Each q (c ∷ a ∷ b ∷ []) = ⊥
 Each q (c ∷ a ∷ b ∷ d ∷ []) = ⊥
 Each q (c ∷ a ∷ b ∷ d ∷ e ∷ ws) = q (finding c a b d e) × Each q ws
 
+-- as many as an answer says, also where there is no room for them
+abbrev pub count_in : Result ℕ Refusal → ℕ
+count_in (Ok n) = n
+count_in (Err r) = needed_of r
+
 -- ---- what a call of `check_packing` writes into the lent cells `o`: as many findings as it answers, five words each
 abbrev pub written : Sheet → List ℕ → List ℕ
-written s o = take (5 * count_of s) (cells_of s o)
+written s o = take (5 * count_in (checked_of s o)) (cells_of s o)

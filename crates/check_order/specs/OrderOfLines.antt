@@ -4,11 +4,13 @@ use Rattle.std.proofs.Common.{sym, ap, ◌∙◌, inl, inr, mul_comm, mul-div_ca
 use mathlib.Core.List.{List, [], ◌∷◌, ◌++◌}
 use Rattle.std.proofs.Math.Seq.{take-append_seam}
 use Rattle.domain.specs.Refusals.{when, or_else}
+use Rattle.domain.specs.Refusal.{answer_with}
+use Rattle.domain.specs.Numbers.{number_in, unnumbered}
 use Rattle.domain.specs.Laws.{or_else_first}
 use Rattle.sheet.specs.declared.Sheet.{Sheet}
 use Rattle.sheet.specs.Sheets.{sheet_refusal}
-use Rattle.check_packing.specs.Check.{check_refusal, count_of, cells_of}
-use Rattle.check_order.specs.Demand.{written, Compared}
+use Rattle.check_packing.specs.Check.{check_refusal, count_of, checked_of, cells_of}
+use Rattle.check_order.specs.Demand.{count_in, written, Compared}
 use Rattle.check_order.specs.Demand.{Each}
 use Rattle.check_order.specs.Parts.{Any, each_line, each_from, each_mass, each_missing, each_listed, each_finding, findings_whole}
 use Rattle.check_packing.specs.Findings.{findings}
@@ -43,18 +45,29 @@ words_counted s =
     let r = fives (findings s) (findings_whole s) in
     ap (λ (l : ℕ). 5 * (l / 5)) r.1 ∙ ap (λ (n : ℕ). 5 * n) (mul-div_cancel r.0 (zero-lt-suc 4)) ∙ mul_comm 5 r.0 ∙ sym r.1
 
--- an accepted sheet, with room lent for all findings, is not refused
-pub not_refused : (s : Sheet) (o : List ℕ) → sheet_refusal s ≡ 0 → length (findings s) ≤ length o → check_refusal s o ≡ 0
-unfolding check_refusal or_else
-not_refused s o h l = ap (λ (v : ℕ). or_else v (when (ltb (length o) (length (findings s))) 6)) h ∙ ap (λ (v : Bool). when v 6)
-    (le-ltb (length o) (length (findings s)) l)
+-- where a call has no refusal, it answers how many there are
+counted : (s : Sheet) (o : List ℕ) → check_refusal s o ≡ 0 → count_in (checked_of s o) ≡ count_of s
+unfolding checked_of answer_with
+counted s o e = rw e refl
 
--- and where it is not refused, what it writes are the findings
-pub written_findings : (s : Sheet) (o : List ℕ) → check_refusal s o ≡ 0 → written s o ≡ findings s
+-- an accepted sheet, with room lent for all findings, is not refused
+pub not_refused : (s : Sheet) (o : List ℕ) → sheet_refusal s ≡ 0 → length (findings s) ≤ length o → number_in (checked_of s o) ≡ 0
+unfolding checked_of check_refusal or_else answer_with
+not_refused s o h l = rw (h, le-ltb (length o) (length (findings s)) l) refl
+
+-- the words of as many findings as there are, where there is no refusal
+taken_findings : (s : Sheet) (o : List ℕ) → check_refusal s o ≡ 0 → take (5 * count_of s) (cells_of s o) ≡ findings s
 unfolding check_refusal count_of cells_of
-written_findings s o h =
+taken_findings s o h =
     ap (λ (v : Bool). take (5 * cond v (length (findings s) / 5) 0) (cells_of s o))
     (eq-eqb (sheet_refusal s) 0 (or_else_first (sheet_refusal s) (when (ltb (length o) (length (findings s))) 6) h))
     ∙ ap (λ (v : ℕ). take v (cells_of s o)) (words_counted s)
     ∙ ap (λ (v : Bool). take (length (findings s)) (cond v (findings s ++ drop (length (findings s)) o) o)) (eq-eqb (check_refusal s o) 0 h)
     ∙ take-append_seam (findings s) (drop (length (findings s)) o)
+
+-- and where it is not refused, what it writes are the findings
+pub written_findings : (s : Sheet) (o : List ℕ) → number_in (checked_of s o) ≡ 0 → written s o ≡ findings s
+unfolding checked_of
+written_findings s o h =
+    let e = unnumbered (check_refusal s o) (count_of s) (count_of s) h in
+    ap (λ (v : ℕ). take (5 * v) (cells_of s o)) (counted s o e) ∙ taken_findings s o e

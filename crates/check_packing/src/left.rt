@@ -56,7 +56,7 @@ pub(crate) fn put_wrong(
         let w = columns::place_of(ids, m, id);
         let k = domain::place_within(w);
         let wrong = !(w < m) | (!short[k] | seen[k]);
-        p = check_words::put_if(out, p, wrong, Finding::WronglyListed { id });
+        p = Finding::WronglyListed { id }.write_if(out, p, wrong);
         seen[k] = seen[k] | (w < m);
     }
     p

@@ -4,7 +4,7 @@
 
 ghost use Rattle.std.specs.Prelude.{◌≡◌, ◌+◌, ◌*◌, ◌≤◌, ◌<◌};
 ghost use Rattle.check_words.specs.Wrote.{room_for};
-ghost use Rattle.domain.specs.Bounds.{most_kinds, most_lines, most_unplaced, most_boxes};
+ghost use Rattle.domain.specs.Bounds.{most_kinds, most_lines, most_unplaced, most_boxes, few_lines, few_boxes, some_lines, some_boxes};
 ghost use Rattle.file_read.specs.Reading.{sheet_of};
 ghost use Rattle.file_accept.specs.Accept.{Taken};
 ghost use Rattle.check_list.specs.View.{rest_found};
@@ -108,6 +108,40 @@ fn put_within<const LINES: usize, const BOXES: usize>(
     )
 }
 
+// The same with columns for few lines and boxes.
+fn put_few(
+    f: &[u8],
+    a: Accepted,
+    ids: &[u32; domain::MOST_KINDS],
+    many: &[u32; domain::MOST_KINDS],
+    packed: &mut [u32; domain::MOST_KINDS],
+    out: &mut [u64],
+) -> Lined
+    requires ready { Ready f.now a ids.now many.now packed.old }
+    requires lines { a.lines ≤ few_lines }
+    requires boxes { kind_first (sheet_of f.now) a.kinds ≤ few_boxes }
+    ensures { LinesPut (sheet_of f.now) out.old packed.new result out.new }
+{
+    put_within::<{ domain::FEW_LINES }, { domain::FEW_BOXES }>(f, a, ids, many, packed, out)
+}
+
+// The same with columns for some of them.
+fn put_some(
+    f: &[u8],
+    a: Accepted,
+    ids: &[u32; domain::MOST_KINDS],
+    many: &[u32; domain::MOST_KINDS],
+    packed: &mut [u32; domain::MOST_KINDS],
+    out: &mut [u64],
+) -> Lined
+    requires ready { Ready f.now a ids.now many.now packed.old }
+    requires lines { a.lines ≤ some_lines }
+    requires boxes { kind_first (sheet_of f.now) a.kinds ≤ some_boxes }
+    ensures { LinesPut (sheet_of f.now) out.old packed.new result out.new }
+{
+    put_within::<{ domain::SOME_LINES }, { domain::SOME_BOXES }>(f, a, ids, many, packed, out)
+}
+
 // The same for every sheet, with columns of the least size that does: one without lines has none, and no column of lines is made for it.
 fn put_lines(
     f: &[u8],
@@ -130,14 +164,10 @@ fn put_lines(
     }
     let boxes = all as usize;
     if (a.lines <= domain::FEW_LINES) & (boxes <= domain::FEW_BOXES) {
-        return put_within::<{ domain::FEW_LINES }, { domain::FEW_BOXES }>(
-            f, a, ids, many, packed, out,
-        );
+        return put_few(f, a, ids, many, packed, out);
     }
     if (a.lines <= domain::SOME_LINES) & (boxes <= domain::SOME_BOXES) {
-        return put_within::<{ domain::SOME_LINES }, { domain::SOME_BOXES }>(
-            f, a, ids, many, packed, out,
-        );
+        return put_some(f, a, ids, many, packed, out);
     }
     put_within::<{ domain::MOST_LINES }, { domain::MOST_BOXES }>(f, a, ids, many, packed, out)
 }

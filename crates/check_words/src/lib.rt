@@ -123,9 +123,16 @@ impl Finding {
             Finding::WronglyListed { id } => [11, u64::from(id), 0, 0, 0],
         }
     }
+
+    // Its words where the test holds.
+    pub fn write_if(self, out: &mut [u64], at: usize, on: bool) -> usize
+        ensures { Given out.old at (only_if on (words_of self)) result out.new }
+    {
+        put_if(out, at, on, self.words())
+    }
 }
 
-// The words of a finding, as far as there are cells: what is past the last is not stored, so that the same run counts and writes.
+// Five words, as far as there are cells: what is past the last is not stored, so that the same run counts and writes.
 fn put(out: &mut [u64], at: usize, words: [u64; 5]) -> usize
     requires within { at < most_words }
     requires five { length words ≡ 5 }
@@ -140,15 +147,15 @@ fn put(out: &mut [u64], at: usize, words: [u64; 5]) -> usize
     at + WORDS
 }
 
-// A finding where the test holds; none begins past the most cells that there can be.
-pub fn put_if(out: &mut [u64], at: usize, on: bool, finding: Finding) -> usize
-    ensures { Given out.old at (only_if on (words_of finding)) result out.new }
+// Five words where the test holds; none begins past the most cells that there can be.
+pub fn put_if(out: &mut [u64], at: usize, on: bool, words: [u64; 5]) -> usize
+    ensures { Given out.old at (only_if on words) result out.new }
 {
     if MOST_WORDS <= at {
         return at;
     }
     if on {
-        return put(out, at, finding.words());
+        return put(out, at, words);
     }
     at
 }

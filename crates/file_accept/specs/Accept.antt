@@ -3,6 +3,7 @@ use Rattle.std.specs.Prelude.{◌≡◌, refl, not, List, ℕ, Result, Ok}
 use Rattle.domain.specs.declared.Refusal.{Refusal}
 use Rattle.domain.specs.Refusals.{when}
 use Rattle.domain.specs.Refusal.{answer_of, no_refusal, accepted_as}
+use Rattle.domain.specs.Numbers.{number_in, number_is}
 use Rattle.lists.specs.Bools.{not_true_of}
 use Rattle.domain.specs.Laws.{or_else_first, or_else_second, when_none}
 use Rattle.sheet.specs.Sheets.{over_count, sheet_refusal}
@@ -10,6 +11,7 @@ use Rattle.file_read.specs.Form.{right_shape, counts_of, lines_start, unplaced_s
 use Rattle.file_read.specs.Reading.{sheet_of, refusal_of}
 use Rattle.file_accept.specs.declared.Accepted.{Accepted}
 use Rattle.file_read.specs.Records.{Readable}
+use Rattle.file_read.specs.Numbered.{file_numbered}
 
 abbrev pub taken_as : List ℕ → Accepted
 taken_as f =
@@ -24,6 +26,10 @@ taken_as f =
 -- a file that is not refused
 abbrev pub accept_of : List ℕ → Result Accepted Refusal
 accept_of f = answer_of (refusal_of f) (taken_as f)
+
+-- its refusal is that of the file
+pub refusal_is : (f : List ℕ) → number_in (accept_of f) ≡ refusal_of f
+refusal_is f = number_is (refusal_of f) 0 (taken_as f) (file_numbered f)
 
 -- ---- what a caller knows
 

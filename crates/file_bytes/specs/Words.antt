@@ -52,6 +52,10 @@ pub four_is : (s : List ℕ) (at : ℕ) → u32_at (get_or s at 0 ∷ get_or s (
 unfolding number_at
 four_is s at = simp towards_suc (omega arith)
 
+pub u32_halves : (s : List ℕ) (at : ℕ) → u16_at s at + u16_at s (at + 2) * 65536 ≡ u32_at s at
+unfolding number_at
+u32_halves s at = simp towards_suc (omega arith)
+
 pub u64_halves : (s : List ℕ) (at : ℕ) → u32_at s at + u32_at s (at + 4) * 4294967296 ≡ u64_at s at
 unfolding number_at
 u64_halves s at = simp towards_suc (omega arith)
@@ -90,3 +94,22 @@ u32_bytes n = low_first 4 0 n n (omega arith)
 
 pub u64_bytes : (n : ℕ) → to_le_bytes w64 n ≡ u64_out n
 u64_bytes n = low_first 8 0 n n (omega arith)
+
+-- ---- by halves
+
+-- what is added in whole 256s leaves the lowest byte
+same_byte : (a b q : ℕ) → a ≡ q * 256 + b → b % 256 ≡ a % 256
+same_byte a b q h = omega arith
+
+-- the bytes of a number of 64 bits are those of its lower half, then those of its upper
+pub u64_out_lem : (v : ℕ) → u32_out (v % 4294967296) ++ u32_out (v / 4294967296) ≡ u64_out v
+unfolding bytes_of
+u64_out_lem v =
+    let r = v % 4294967296 in
+    let q = v / 4294967296 in
+    let a : r % 256 ≡ v % 256 = same_byte v r (q * 16777216) (omega arith) in
+    let b : r / 256 % 256 ≡ v / 256 % 256 = same_byte (v / 256) (r / 256) (q * 65536) (omega arith) in
+    let c : r / 256 / 256 % 256 ≡ v / 256 / 256 % 256 = same_byte (v / 256 / 256) (r / 256 / 256) (q * 256) (omega arith) in
+    let d : r / 256 / 256 / 256 % 256 ≡ v / 256 / 256 / 256 % 256 = same_byte (v / 256 / 256 / 256) (r / 256 / 256 / 256) q (omega arith) in
+    let e : q ≡ v / 256 / 256 / 256 / 256 = omega arith in
+    rw (a, b, c, d, e)

@@ -3,16 +3,22 @@
 use Rattle.std.specs.Prelude.{ℕ, zero, suc, ◌≤◌, ◌≡◌, refl, Bool, true, false, List, ◌++◌, leb, length, drop, Ok}
 use Rattle.std.proofs.Common.{sym, ap, ◌∙◌, arith, leb-true, le-leb}
 use Rattle.domain.specs.Refusal.{refused_or, no_refusal, accepted_as, no_number}
+use Rattle.domain.specs.Numbers.{number_in, number_is}
 use Rattle.sheet.specs.declared.Sheet.{Sheet}
 use Rattle.sheet.specs.Sheets.{sheet_refusal}
 use Rattle.file_read.specs.Reading.{sheet_of, refusal_of, read_of}
 use Rattle.file_read.specs.Refusal.{sheet_sound}
+use Rattle.file_read.specs.Numbered.{file_numbered}
 use Rattle.file_write.specs.Writing.{file_of, file_length, written_of, bytes_after, bytes_written}
 use Rattle.file_laws.specs.Parts.{Bytes}
 use Rattle.file_write.specs.Stores.{file_length_is}
 use Rattle.file_laws.specs.ReadWrite.{read_write}
 
 -- ---- the calls where they accept
+
+pub refused_is : (f : List ℕ) → number_in (read_of f) ≡ refusal_of f
+unfolding read_of
+refused_is f = number_is (refusal_of f) 0 (sheet_of f) (file_numbered f)
 
 pub read_is : (f : List ℕ) → refusal_of f ≡ 0 → read_of f ≡ Ok (sheet_of f)
 unfolding read_of

@@ -1,6 +1,6 @@
 // A load file's records, and the sheet that they make.
 ghost use Rattle.std.specs.Prelude.{◌≡◌, ℕ, List, ◌+◌, ◌*◌, ◌≤◌, length};
-ghost use Rattle.lists.specs.Table.{table};
+ghost use Rattle.lists.specs.Table.{filled};
 ghost use Rattle.file_bytes.specs.Bytes.{u32_at};
 ghost use Rattle.file_read.specs.Form.{kind_bytes, line_bytes, id_bytes, lines_start, unplaced_start, counts_of};
 ghost use Rattle.file_read.specs.Reading.{container_from, kind_from, line_from, sheet_of};
@@ -121,17 +121,15 @@ impl Record for u32 {
     }
 }
 
-// The n records from `start` on in a table's first cells, the others blank.
-fn table_of<T: Record, const N: usize>(blank: T, f: &[u8], start: usize, n: usize) -> [T; N]
+// Stores the n records from `start` on in the first cells.
+fn fill_table<T: Record, const N: usize>(records: &mut [T; N], f: &[u8], start: usize, n: usize)
     requires cells { n ≤ N }
     requires within { start + n * T.WIDTH ≤ length f.now }
-    ensures { result ≡ table blank N (λ k. T.from f.now (start + k * T.WIDTH)) n }
+    ensures { records.new ≡ filled records.old (λ k. T.from f.now (start + k * T.WIDTH)) n }
 {
-    let mut records = [blank; N];
     for k in 0..n {
         records[k] = T::read(f, start + k * T::WIDTH);
     }
-    records
 }
 
 // The sheet that a file of the right shape says, with counts within their bounds and these starts of the lines and the unplaced ids.
@@ -140,9 +138,12 @@ pub(crate) fn sheet_of(f: &[u8], many: Counts, start: usize, end: usize) -> Shee
     ensures { result ≡ sheet_of f.now }
 {
     let container = container_at(f);
-    let kinds = table_of(sheet::blank_kind(), f, layout::BLOCK, many.kinds);
-    let lines = table_of(sheet::blank_line(), f, start, many.lines);
-    let unplaced = table_of(0, f, end, many.unplaced);
+    let mut kinds = [sheet::blank_kind(); domain::MOST_KINDS];
+    fill_table(&mut kinds, f, layout::BLOCK, many.kinds);
+    let mut lines = [sheet::blank_line(); domain::MOST_LINES];
+    fill_table(&mut lines, f, start, many.lines);
+    let mut unplaced = [0; domain::MOST_UNPLACED];
+    fill_table(&mut unplaced, f, end, many.unplaced);
     Sheet {
         many,
         container,

@@ -10,12 +10,15 @@ use crate::write;
 use file_read::layout;
 use sheet::Line;
 
-// The order's bytes up to the end of its kinds, as they are.
+// The order's bytes up to the end of its kinds, as they are. A byte at a time, as the library's copy of slices asks for a function that a C program
+// without a library may lack (memmove).
 pub(crate) fn put_head(out: &mut [u8], order: &[u8], end: usize)
     requires { (end ≤ length order.now) × (end ≤ length out.old) }
     ensures { Put out.old 0 (part order.now 0 end) out.new }
 {
-    out[..end].copy_from_slice(&order[..end]);
+    for i in 0..end {
+        out[i] = order[i];
+    }
 }
 
 // The first n lines.

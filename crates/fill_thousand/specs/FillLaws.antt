@@ -1,16 +1,17 @@
 -- What the refusal of a fill says of its sheet, and the answer in either case.
-use Rattle.std.specs.Prelude.{◌≡◌, ℕ, zero, suc, ◌*◌, ◌/◌, ◌<◌, false, ◌||◌, List, ◌==◌, ◌≢◌, refl, Float}
-use Rattle.std.proofs.Common.{mul-pos, arith, sym, ap}
+use Rattle.std.specs.Prelude.{◌≡◌, ℕ, zero, suc, ◌*◌, ◌/◌, ◌<◌, false, ◌||◌, List, ◌==◌, ◌≢◌, refl, Float, Ok, Err}
+use Rattle.std.proofs.Common.{mul-pos, arith, sym, ap, ◌∙◌}
 use Rattle.floats.specs.Ops.{x, y, z}
 use Rattle.floats.specs.Weak.{true_false}
 use Rattle.lists.specs.Below.{any_below, sum_below}
 use Rattle.domain.specs.Refusals.{when, or_else}
 use Rattle.lists.specs.Bools.{or_left, or_right}
 use Rattle.domain.specs.Laws.{or_else_first, or_else_second, when_none}
+use Rattle.domain.specs.Refusal.{answer_with, refusal_by, no_number}
 use Rattle.sheet.specs.declared.Sheet.{Sheet}
 use Rattle.sheet.specs.Sheets.{sheet_refusal}
 use Rattle.fill_thousand.specs.Sides.{side_of}
-use Rattle.fill_thousand.specs.Fill.{uneven, uneven_kind, fill_refusal, solid_of, line_volume, per_thousand}
+use Rattle.fill_thousand.specs.Fill.{uneven, uneven_kind, fill_refusal, solid_of, line_volume, per_thousand, fill_of}
 
 -- the sheet's own refusal, then 8
 pub sheet_first : (s : Sheet) (r : ℕ) → r ≡ sheet_refusal s → (r ≢ 0) → r ≡ fill_refusal s
@@ -56,3 +57,16 @@ pub filled_by : (s : Sheet) (v q : ℕ) → v ≡ sum_below (line_volume s.kinds
     → v * 1000 / q ≡ per_thousand s
 unfolding per_thousand
 filled_by s v q e f = rw (← e, ← f) refl
+
+-- ---- the answer
+
+pub answer_refused : (s : Sheet) (r : ℕ) → r ≡ fill_refusal s → (r ≢ 0) → Err (refusal_by r 0) ≡ fill_of s
+unfolding fill_of answer_with
+answer_refused s zero e h = absurd (h refl)
+answer_refused s (suc r) e h = rw (← e) refl
+
+pub answer_filled : (s : Sheet) (v q : ℕ)
+    → fill_refusal s ≡ 0 → v ≡ sum_below (line_volume s.kinds s.many.kinds s.lines) s.many.lines → q ≡ solid_of s.container.size
+    → Ok (v * 1000 / q) ≡ fill_of s
+unfolding fill_of
+answer_filled s v q h e f = ap Ok (filled_by s v q e f) ∙ no_number (fill_refusal s) 0 (per_thousand s) h

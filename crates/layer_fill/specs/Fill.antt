@@ -1,6 +1,6 @@
 -- The state of the second placer, the fill by layers, with its placements (packing_utils.rs, `LayerFill`), refusals included. The fill per thousand of a
 -- load file is another thing: `fill_thousand`.
-use Rattle.std.specs.Prelude.{◌≡◌, Bool, true, false, List, ℕ, ◌+◌, ◌<◌, eqb, ltb, set, replicate, Option, Some, None, option_map, Result, Ok, Err, Float}
+use Rattle.std.specs.Prelude.{◌≡◌, refl, Bool, true, false, List, ℕ, ◌+◌, ◌<◌, eqb, ltb, set, replicate, Option, Some, None, option_map, Result, Ok, Err, Float}
 use Rattle.std.proofs.Common.{arith, ltb-false}
 use Rattle.std.proofs.lemmas.Bool.{eqb-false}
 use Rattle.domain.specs.Bounds.{most_boxes}
@@ -72,6 +72,13 @@ abbrev pub has_placed : Result (Option LayerFill) Refusal → Bool
 has_placed (Ok (Some g)) = true
 has_placed (Ok None) = false
 has_placed (Err r) = false
+
+-- a call that is not refused takes the step
+pub took_after : (f : LayerFill) (k : Kind) (instance : ℕ) (s : Option Step) → place_refusal f.count k ≡ 0
+    → after_call f (answered f k instance s) ≡ took f s k.id instance
+unfolding answered took answer_with
+took_after f k instance None h = rw h refl
+took_after f k instance (Some s) h = rw h refl
 
 -- a fill that says it holds more than it can gets 2 from every call. RULES: Refusals.
 abbrev pub over_full : LayerFill → Bool

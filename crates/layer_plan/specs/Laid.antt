@@ -4,7 +4,7 @@ use Rattle.std.proofs.Common.{sym, ap, ◌∙◌, arith, eq-eqb}
 use Rattle.domain.specs.Bounds.{most_kinds, most_lines}
 use Rattle.domain.specs.declared.Refusal.{Refusal}
 use Rattle.domain.specs.Refusals.{when}
-use Rattle.domain.specs.Refusal.{answer_with}
+use Rattle.domain.specs.Refusal.{answer_with, no_number}
 use Rattle.measures.specs.declared.Kind.{Kind}
 use Rattle.sheet.specs.declared.Line.{Line}
 use Rattle.sheet.specs.declared.Sheet.{Sheet}
@@ -26,7 +26,7 @@ use Rattle.layer_plan.specs.Offers.{best_offer}
 use Rattle.layer_plan.specs.Fills.{plan_from, layer_fill_of, turns_few}
 use Rattle.plan_sheet.specs.Laid.{Lays}
 use Rattle.plan_sheet.specs.Room.{fitting}
-use Rattle.plan_sheet.specs.LaidLaws.{lays_short, lays_fitting}
+use Rattle.plan_sheet.specs.LaidLaws.{lays_short, lays_roomy}
 use Rattle.layer_plan.specs.Shown.{shown_in, Holds}
 
 -- ---- the plan of a fill
@@ -68,10 +68,17 @@ shows f n stand count old new h = record { told_is = rw (h.stand_is, h.count_is)
 
 -- in lines that are as many as the boxes considered, or fewer
 module _ (p : Plan) (f : LayerFill) (n : ℕ) (old : List Line) (m : Made p f n) where
-  pub lays_made : {A : Type 0} (u w : A) (r : Told) (new : List Line) → Ok w ≡ answer_with (when (ltb (length old) n) 6) n u → Shows f n r old new
+  pub lays_made : (r : Told) (new : List Line) → Shows f n r old new → Lays p (Ok r) old new
+  lays_made r new h =
+      record {
+        told_is = rw (h.told_is ∙ sym m.told_is) (no_number p.refused p.considered (told_of p) m.fair);
+        lines_are = h.lines_are ∙ laid_is old p f n m;
+      }
+
+  pub lays_room : {A : Type 0} (u w : A) (r : Told) (new : List Line) → Ok w ≡ answer_with (when (ltb (length old) n) 6) n u → Shows f n r old new
       → Lays (fitting old p) (Ok r) old new
-  lays_made u w r new e h =
-      lays_fitting old p n (sym (made_considered m)) u w r new e m.fair (h.told_is ∙ sym m.told_is) (h.lines_are ∙ laid_is old p f n m)
+  lays_room u w r new e h =
+      lays_roomy old p n (sym (made_considered m)) u w r new e m.fair (h.told_is ∙ sym m.told_is) (h.lines_are ∙ laid_is old p f n m)
 
   pub lays_none : {A : Type 0} (u : A) (r : Refusal) → Err r ≡ answer_with (when (ltb (length old) n) 6) n u → Lays (fitting old p) (Err r) old old
   lays_none u r e = lays_short old p n (sym (made_considered m)) u r e

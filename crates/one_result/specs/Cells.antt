@@ -3,6 +3,7 @@ use Rattle.std.specs.Prelude.{refl, ◌≡◌, Bool, true, false, List, ℕ, ltb
 use seplogic.Ra.Ura.{Ura}
 use Rattle.one_result.specs.Law.{World, Settles, nothing, plain, told}
 use Rattle.check_words.specs.contracts.put_if as put_if
+use Rattle.check_words.specs.contracts.Finding.write_if as write_if
 use Rattle.check_words.specs.contracts.box_of as box_of
 use Rattle.std.proofs.Common.{sym, ◌∙◌, ltb-true, ltb-false}
 use Rattle.check_words.specs.Words.{words_of, only_if}
@@ -23,9 +24,16 @@ module _ {M : Type 1} (𝓤 : Ura M) (w : World 𝓤) where
   pub put_if_one : (κs : _) (args : _) → Settles 𝓤 (put_if.clauses w.𝓛 w.mem w.run κs args) (λ e. e.0.now)
   put_if_one κs args =
       let at = args.1.0 in
-      let words = only_if args.1.1.0 (words_of args.1.1.1.0) in
+      let words = only_if args.1.1.0 args.1.1.1.0 in
       told 𝓤 _ _ (λ r x. Given args.0.now at words r x) (λ _. refl) (λ _ _ _. refl)
       (λ r s x y p q. given_one args.0.now at words r s x y p q)
+
+  pub write_if_one : (κs : _) (args : _) → Settles 𝓤 (write_if.clauses w.𝓛 w.mem w.run κs args) (λ e. e.1.0.now)
+  write_if_one κs args =
+      let at = args.1.1.0 in
+      let words = only_if args.1.1.1.0 (words_of args.0) in
+      told 𝓤 _ _ (λ r x. Given args.1.0.now at words r x) (λ _. refl) (λ _ _ _. refl)
+      (λ r s x y p q. given_one args.1.0.now at words r s x y p q)
 
   pub box_of_one : (κs : _) (args : _) → Settles 𝓤 (box_of.clauses w.𝓛 w.mem w.run κs args) nothing
   box_of_one κs args = plain 𝓤 _ _ (λ _. refl) (λ _ _ _. refl)

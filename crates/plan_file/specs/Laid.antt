@@ -23,7 +23,7 @@ use Rattle.lists.specs.Table.{table_at}
 use Rattle.sheet.specs.declared.Counts.{Counts}
 use Rattle.sheet.specs.declared.Line.{Line}
 use Rattle.sheet.specs.declared.Sheet.{Sheet}
-use Rattle.sheet.specs.Sheets.{sheet_refusal}
+use Rattle.sheet.specs.Sheets.{no_line, sheet_refusal}
 use Rattle.file_read.specs.Reading.{sheet_of, refusal_of}
 use Rattle.file_read.specs.Refusal.{sheet_sound}
 use Rattle.file_read.specs.Records.{counts_in, many_is}
@@ -48,7 +48,7 @@ use Rattle.plan_laws.specs.Accepted.{Taken, Lists, points_lists, layers_lists}
 use Rattle.plan_laws.proofs.Accepted.{points_accepted, layers_accepted}
 use Rattle.plan_laws.specs.Laid as Laws
 use Rattle.plan_laws.specs.Laid.{laid_left}
-use Rattle.plan_laws.specs.Fits.{Modest, fits_small, fits_refused_by, fits_long, long_room}
+use Rattle.plan_laws.specs.Fits.{Modest, fits_told, fits_refused_by, fits_long, long_room}
 use Rattle.point_run.specs.Runs.{ep_packing_of}
 use Rattle.layer_plan.specs.Fills.{layer_fill_of}
 use Rattle.answer_word.specs.Answer.{unit, answer_of, word_told, fits_or}
@@ -214,7 +214,7 @@ module _ (f : List ℕ) (bytes : Bytes f) (z : refusal_of f ≡ 0) (p : Plan) (s
         kinds_are = sym (ap (λ (m : Counts). m.kinds) (many_is f));
         container_is = refl;
         kind_list = refl;
-        line_is = λ i l. sym (ap line_numbers (laid_at old p i long l));
+        line_is = λ i l. sym (ap line_numbers (laid_at old p i no_line long l));
         left_is =
             λ i l.
             table_at 0 most_unplaced (λ j. get_or p.ids j 0) most_kinds i 0 (omega arith) (let h = fair_plan.ids_few in omega arith)
@@ -324,7 +324,7 @@ module _ (plan_of : Planner) (f : List ℕ) (bytes : Bytes f) (consider : ℕ) (
   pub few_written : (t : Told) (out words : List ℕ) (r : ℕ) (out' words' : List ℕ) → Lays (fitting old (plan_in plan_of f consider)) (Ok t) old c
       → WritesLaid f t c out words r out' words' → Answers plan_of f consider out words r out' words'
   few_written t out words r out' words' l w =
-      let fits = fits_small old old c (plan_in plan_of f consider) t modest l in
+      let fits = fits_told old old c (plan_in plan_of f consider) t modest l in
       answers plan_of f bytes consider sound old c t out words r out' words' fits.room (rw fits.is_plan at l) w
 
   pub few_refused : (q : Refusal) (out words : List ℕ) → ((n : ℕ) → q ≡ Room n → ⊥) → Lays (fitting old (plan_in plan_of f consider)) (Err q) old c

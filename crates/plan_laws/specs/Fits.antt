@@ -113,18 +113,21 @@ pub record Fits (lines : List Line) (p : Plan) : Type 0 where
   pub is_plan : fitting lines p ≡ p
   pub room : p.placed ≤ length lines
 
-pub fits_small : (lines old new : List Line) (p : Plan) (t : Told) → Modest p → Lays (fitting lines p) (Ok t) old new → Fits lines p
+pub fits_small : (lines : List Line) (p : Plan) → Modest p → ((fitting lines p).refused ≡ 6 → ⊥) → Fits lines p
 unfolding crowded_plan
-fits_small lines old new p t m l = go (ltb (length lines) p.considered) refl
+fits_small lines p m n = go (ltb (length lines) p.considered) refl
   where
-    fair : (fitting lines p).refused ≡ 0
-    fair = no_refusal _ (fitting lines p).considered (told_of (fitting lines p)) t l.told_is
-
     go : (b : Bool) → ltb (length lines) p.considered ≡ b → Fits lines p
-    go true e = let h = rw (fits_not lines p (ltb-true (length lines) p.considered e)) at fair in absurd (omega (arith, h))
+    go true e = absurd (n (rw (fits_not lines p (ltb-true (length lines) p.considered e)) refl))
     go false e =
         let h = ltb-false (length lines) p.considered e in
         record { is_plan = fits_in lines p h; room = let a = m.no_more in omega arith }
+
+-- as it is where a call told of it
+pub fits_told : (lines old new : List Line) (p : Plan) (t : Told) → Modest p → Lays (fitting lines p) (Ok t) old new → Fits lines p
+fits_told lines old new p t m l =
+    let fair = no_refusal _ (fitting lines p).considered (told_of (fitting lines p)) t l.told_is in
+    fits_small lines p m (λ h. omega (arith, h, fair))
 
 -- and where it is refused for another thing than room, that is the plan's own refusal
 pub fits_refused_by : (lines old new : List Line) (p : Plan) (r : Refusal) → ((n : ℕ) → r ≡ Room n → ⊥) → Lays (fitting lines p) (Err r) old new

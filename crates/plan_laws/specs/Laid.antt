@@ -7,13 +7,14 @@ use Rattle.domain.specs.Refusal.{answer_with}
 use Rattle.sheet.specs.declared.Counts.{Counts}
 use Rattle.sheet.specs.declared.Line.{Line}
 use Rattle.sheet.specs.declared.Sheet.{Sheet}
+use Rattle.sheet.specs.Sheets.{no_line}
 use Rattle.file_read.specs.Form.{counts_of}
 use Rattle.file_read.specs.Reading.{sheet_of, refusal_of}
 use Rattle.file_read.specs.Records.{counts_in, counts_right_in, bounds, many_is}
 use Rattle.file_accept.specs.Accept.{readable}
 use Rattle.plan_unplaced.specs.declared.Left.{Left}
 use Rattle.plan_unplaced.specs.Left.{over_bound, left_of, left_by, left_long, none_over}
-use Rattle.plan_unplaced.specs.Same.{left_same}
+use Rattle.plan_unplaced.specs.Same.{same_lines}
 use Rattle.plan_unplaced.specs.InFile.{kinds_in, kinds_in_is}
 use Rattle.plan_sheet.specs.declared.Told.{Told}
 use Rattle.plan_sheet.specs.Plans.{Plan}
@@ -62,7 +63,7 @@ module _ (f : List ℕ) (z : refusal_of f ≡ 0) (p : Plan) (lists : Lists (shee
   left_by_lem =
       ap (λ (m : Counts). left_by (kinds_in f m.kinds) m.kinds (laid_in old p) p.placed) (counts_are f z)
       ∙ rw (kinds_in_is f (readable f z))
-      (left_same (laid_in old p) p.lines p.placed (λ j l. laid_at old p j room l) order.kinds (counts_of f).kinds)
+      (same_lines (laid_in old p) p.lines p.placed (λ j l. laid_at old p j no_line room l) order.kinds (counts_of f).kinds)
 
   left_in_lem : left ≡ left_in order.kinds order.many.kinds p.lines p.placed
   unfolding left_by

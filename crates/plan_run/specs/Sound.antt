@@ -12,7 +12,7 @@ use Rattle.domain.specs.Bounds.{most_lines}
 use Rattle.domain.specs.declared.Refusal.{Refusal}
 use Rattle.domain.specs.Refusal.{no_refusal, accepted_as}
 use Rattle.sheet.specs.declared.Sheet.{Sheet}
-use Rattle.sheet.specs.Sheets.{sheet_refusal}
+use Rattle.sheet.specs.Sheets.{no_line, sheet_refusal}
 use Rattle.sheet.specs.declared.Line.{Line}
 use Rattle.file_read.specs.Form.{right_shape}
 use Rattle.file_read.specs.Reading.{sheet_of, refusal_of}
@@ -61,7 +61,7 @@ module _ (f : List ℕ) (p : Plan) (old : List Line) (room : p.placed ≤ length
   -- the words of line i
   row_is : (i : ℕ) → i < p.placed → line_words (laid_in old p) i ≡ line_words p.lines i
   unfolding line_words
-  row_is i l = ap words_of (laid_at old p i room l)
+  row_is i l = ap words_of (laid_at old p i no_line room l)
 
   rows_are : (o : List ℕ) → wrote (line_words out.lines) 6 p.placed o ≡ wrote (line_words p.lines) 6 p.placed o
   unfolding wrote plan_by

@@ -1,10 +1,11 @@
 -- The kinds that bytes say, which for an accepted file are those of its sheet; and the unplaced list of a file.
-use Rattle.std.specs.Prelude.{◌≡◌, List, ℕ, ◌<◌, ◌≤◌, get_or, replicate, Result}
+use Rattle.std.specs.Prelude.{◌≡◌, refl, List, ℕ, ◌<◌, ◌≤◌, get_or, replicate, Result}
 use Rattle.std.proofs.Common.{◌∙◌, ap}
 use Rattle.lists.specs.Table.{table, table_at, table_length, table_same, filled}
 use Rattle.domain.specs.Bounds.{most_kinds, most_lines}
 use Rattle.domain.specs.declared.Refusal.{Refusal}
-use Rattle.domain.specs.Refusal.{answer_of}
+use Rattle.domain.specs.Refusals.{when}
+use Rattle.domain.specs.Refusal.{answer_of, refused_or}
 use Rattle.measures.specs.declared.Kind.{Kind}
 use Rattle.sheet.specs.declared.Line.{Line}
 use Rattle.sheet.specs.Sheets.{no_kind, no_line, blank_kind, blank_line, line_at}
@@ -13,8 +14,8 @@ use Rattle.file_read.specs.Reading.{kind_from, kind_place, kinds_by, sheet_of, r
 use Rattle.file_read.specs.Tables.{kinds_at}
 use Rattle.file_read.specs.Records.{kind_in, Readable, bounds, kind_is, many_is}
 use Rattle.plan_unplaced.specs.declared.Left.{Left}
-use Rattle.plan_unplaced.specs.Left.{left_of, left_by, left_long, none_over, unplaced_of}
-use Rattle.plan_unplaced.specs.Same.{left_same}
+use Rattle.plan_unplaced.specs.Left.{over_bound, left_of, left_by, left_long, unplaced_of}
+use Rattle.plan_unplaced.specs.Same.{same_lines}
 
 -- the first m kinds, blank past them
 abbrev pub kinds_in : List ℕ → ℕ → List Kind
@@ -31,17 +32,17 @@ kinds_in_is f r =
 
 -- RULES: Unplaced list. The unplaced list of a load file by its own lines, or the refusal that reading it gets
 unfoldable pub file_unplaced : List ℕ → Result Left Refusal
-file_unplaced f = answer_of (refusal_of f) (unplaced_of (sheet_of f))
+file_unplaced f = refused_or (refusal_of f) (unplaced_of (sheet_of f))
 
 -- ---- laws
 
 pub unplaced_is : (f : List ℕ) → refusal_of f ≡ 0 → (m n : ℕ) → Readable f → m ≡ (counts_of f).kinds → n ≡ (counts_of f).lines → (lines : List Line)
     → lines ≡ filled (replicate most_lines blank_line) (line_at (sheet_of f)) n → left_of (kinds_in f m) m lines n ≡ file_unplaced f
-unfolding file_unplaced unplaced_of left_by
+unfolding file_unplaced refused_or unplaced_of
 unplaced_is f z m n r kinds_are lines_are lines e =
     let few : n ≤ most_lines = rw lines_are (bounds f r).lines in
-    let same : left_by (kinds_in f m) m lines n ≡ unplaced_of (sheet_of f) =
-    left_same lines (sheet_of f).lines n (λ j l. rw e (table_at blank_line most_lines (line_at (sheet_of f)) n j no_line few l)) (kinds_in f m) m
-    ∙ rw (kinds_are, lines_are, kinds_in_is f r, ← (many_is f)) in
+    let same =
+    same_lines lines (sheet_of f).lines n (λ j l. rw e (table_at blank_line most_lines (line_at (sheet_of f)) n j no_line few l)) (kinds_in f m) m in
     left_long (kinds_in f m) m lines n (rw (e, table_length blank_line most_lines (line_at (sheet_of f)) n) few)
-    ∙ rw (none_over m n (rw kinds_are (bounds f r).kinds) few, z) (ap (λ (l : Left). answer_of 0 l) same)
+    ∙ ap (λ (l : Left). answer_of (when (over_bound m n) 2) l) same
+    ∙ rw (z, kinds_are, lines_are, kinds_in_is f r, ← (many_is f)) refl

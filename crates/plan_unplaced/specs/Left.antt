@@ -49,8 +49,8 @@ unfoldable pub left_of : List Kind → ℕ → List Line → ℕ → Result Left
 left_of kinds m lines n = answer_of (when (over_bound m n || ltb (length lines) n) 2) (left_by kinds m lines n)
 
 -- that of a sheet, by its own lines
-unfoldable pub unplaced_of : Sheet → Left
-unplaced_of s = left_by s.kinds s.many.kinds s.lines s.many.lines
+unfoldable pub unplaced_of : Sheet → Result Left Refusal
+unplaced_of s = answer_of (when (over_bound s.many.kinds s.many.lines) 2) (left_by s.kinds s.many.kinds s.lines s.many.lines)
 
 -- ---- counts that are not over
 

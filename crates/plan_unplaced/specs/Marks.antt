@@ -105,6 +105,17 @@ module _ (lines : List Line) (n id q : ℕ) (seen : List Bool) (small : q ≤ mo
 pub record Strangers (lines : List Line) (id from to : ℕ) : Type 0 where
   pub none_named : (j : ℕ) → from ≤ j → j < to → eqb (id_at lines j) id ≡ false
 
+-- the same of ids
+pub record Others (ids : List ℕ) (id from to : ℕ) : Type 0 where
+  pub none_named : (j : ℕ) → from ≤ j → j < to → eqb (get_or ids j 0) id ≡ false
+
+-- the ids of the first n lines, side by side
+pub record Beside (lines : List Line) (n : ℕ) (ids : List ℕ) : Type 0 where
+  pub each : (j : ℕ) → j < n → get_or ids j 0 ≡ id_at lines j
+
+pub strangers_by : (lines : List Line) (ids : List ℕ) (n id from to : ℕ) → Beside lines n ids → to ≤ n → Others ids id from to → Strangers lines id from to
+strangers_by lines ids n id from to b h o = record { none_named = λ j p q. rw (← (b.each j (omega arith))) (o.none_named j p q) }
+
 -- the marks after the lines up to `to`, of which those from `from` on add so many
 pub record Adds (lines : List Line) (from to id q added : ℕ) (seen : List Bool) : Type 0 where
   pub after : Marked lines to id q seen

@@ -7,6 +7,8 @@ ghost use Rattle.plan_unplaced.specs.Left.{short_kind, left_after, left_of};
 ghost use Rattle.file_read.specs.Reading.{sheet_of};
 ghost use Rattle.file_accept.specs.Accept.{Taken};
 ghost use Rattle.plan_unplaced.specs.InFile.{kinds_in, file_unplaced};
+ghost use Rattle.plan_unplaced.specs.Marks.{Beside};
+ghost use Rattle.plan_unplaced.specs.Short.{id_at};
 
 use crate::{Left, NO_LEFT, is_short, push_if};
 use domain::{Refusal, refuse};
@@ -14,15 +16,31 @@ use file_accept::Accepted;
 use file_read::records;
 use sheet::Line;
 
+// The ids of the first n lines, side by side.
+fn put_ids(lines: &[Line], n: usize, ids: &mut [u32; domain::MOST_LINES])
+    requires { (n ≤ most_lines) × (n ≤ length lines.now) }
+    ensures { ids.new ≡ filled ids.old (id_at lines.now) n }
+{
+    for j in 0..n {
+        ids[j] = lines[j].id;
+    }
+}
+
 // Which of the first m kinds of a file are short.
-fn flags_in(f: &[u8], m: usize, lines: &[Line], n: usize) -> [bool; domain::MOST_KINDS]
-    requires { (m ≤ most_kinds) × (n ≤ most_lines) × (n ≤ length lines.now) }
+fn flags_in(
+    f: &[u8],
+    m: usize,
+    lines: &[Line],
+    ids: &[u32; domain::MOST_LINES],
+    n: usize,
+) -> [bool; domain::MOST_KINDS]
+    requires { (m ≤ most_kinds) × (n ≤ most_lines) × (n ≤ length lines.now) × Beside lines.now n ids.now }
     ensures { result ≡ table false most_kinds (short_kind (kinds_in f.now m) lines.now n) m }
 {
     let mut flags = [false; domain::MOST_KINDS];
     for k in 0..m {
         let kind = records::kind_in(f, k);
-        flags[k] = is_short(lines, n, kind.id, kind.quantity);
+        flags[k] = is_short(lines, ids, n, kind.id, kind.quantity);
     }
     flags
 }
@@ -47,7 +65,9 @@ pub fn left_in(f: &[u8], m: usize, lines: &[Line], n: usize) -> Result<Left, Ref
 {
     let over = (m > domain::MOST_KINDS) | (n > domain::MOST_LINES);
     refuse(over | (n > lines.len()), Refusal::Count)?;
-    let flags = flags_in(f, m, lines, n);
+    let mut ids = [0; domain::MOST_LINES];
+    put_ids(lines, n, &mut ids);
+    let flags = flags_in(f, m, lines, &ids, n);
     Ok(listed_in(f, m, &flags))
 }
 

@@ -7,7 +7,7 @@ ghost use Rattle.std.specs.Prelude.{◌≡◌, true, false, ◌≤◌, ◌<◌, 
 ghost use Rattle.domain.specs.Bounds.{most_kinds, most_lines};
 ghost use Rattle.plan_unplaced.specs.Short.{distinct_placed, is_short};
 ghost use Rattle.plan_unplaced.specs.Left.{push_if};
-ghost use Rattle.plan_unplaced.specs.Marks.{mark_of, fresh_of, no_marks, Marked, Strangers, Adds};
+ghost use Rattle.plan_unplaced.specs.Marks.{mark_of, fresh_of, no_marks, Marked, Others, Beside, Adds};
 
 mod in_file; // in_file.rt: the list of an order in a load file
 
@@ -55,14 +55,14 @@ fn no_marks() -> [bool; MARKS]
     seen
 }
 
-// Whether one of the lines from `from` up to `to` has the id: no branch, so that many are looked at together.
-fn some_named(lines: &[Line], from: usize, to: usize, id: u32) -> bool
-    requires { (from ≤ to) × (to ≤ length lines.now) }
-    ensures { result ≡ false → Strangers lines.now id from to }
+// Whether one of the ids from `from` up to `to` is this one: no branch, and ids side by side, so that many are looked at together.
+fn some_named(ids: &[u32; domain::MOST_LINES], from: usize, to: usize, id: u32) -> bool
+    requires { (from ≤ to) × (to ≤ most_lines) }
+    ensures { result ≡ false → Others ids.now id from to }
 {
     let mut named = false;
     for j in from..to {
-        named = named | (lines[j].id == id);
+        named = named | (ids[j] == id);
     }
     named
 }
@@ -95,10 +95,16 @@ fn mark_lines(
     count
 }
 
-// How many distinct instances of a kind, in range, the first n lines place. Once all are placed, no line adds one; lines of other kinds are passed over
-// a block at a time.
-fn distinct_placed(lines: &[Line], n: usize, id: u32, quantity: u32) -> usize
-    requires { (n ≤ most_lines) × (n ≤ length lines.now) × (quantity ≤ most_lines) }
+// How many distinct instances of a kind, in range, the first n lines place, whose ids stand beside them. Once all are placed, no line adds one;
+// lines of other kinds are passed over a block at a time.
+fn distinct_placed(
+    lines: &[Line],
+    ids: &[u32; domain::MOST_LINES],
+    n: usize,
+    id: u32,
+    quantity: u32,
+) -> usize
+    requires { (n ≤ most_lines) × (n ≤ length lines.now) × (quantity ≤ most_lines) × Beside lines.now n ids.now }
     ensures { result ≡ distinct_placed lines.now n id quantity }
 {
     let most = quantity as usize;
@@ -109,7 +115,7 @@ fn distinct_placed(lines: &[Line], n: usize, id: u32, quantity: u32) -> usize
     // Stays: it goes on by a block at a time and stops early; a for with a step and a break is no plainer.
     while (j < n) & (count < most) {
         let to = block_end(j, n);
-        if some_named(lines, j, to, id) {
+        if some_named(ids, j, to, id) {
             count += mark_lines(&mut seen, lines, j, to, id, quantity);
         }
         j = to;
@@ -118,14 +124,20 @@ fn distinct_placed(lines: &[Line], n: usize, id: u32, quantity: u32) -> usize
 }
 
 // Whether fewer are placed than there are. More than there can be lines are never all placed.
-fn is_short(lines: &[Line], n: usize, id: u32, quantity: u32) -> bool
-    requires { (n ≤ most_lines) × (n ≤ length lines.now) }
+fn is_short(
+    lines: &[Line],
+    ids: &[u32; domain::MOST_LINES],
+    n: usize,
+    id: u32,
+    quantity: u32,
+) -> bool
+    requires { (n ≤ most_lines) × (n ≤ length lines.now) × Beside lines.now n ids.now }
     ensures { result ≡ is_short lines.now n id quantity }
 {
     if quantity as usize > domain::MOST_LINES {
         return true;
     }
-    distinct_placed(lines, n, id, quantity) < quantity as usize
+    distinct_placed(lines, ids, n, id, quantity) < quantity as usize
 }
 
 // The list with one id more, where the test holds.

@@ -3,6 +3,7 @@ use Rattle.std.specs.Prelude.{◌≡◌, refl, Bool, true, false, cond, List, []
 use Rattle.std.proofs.Math.Path.{sym, ap}
 use Rattle.std.proofs.Common.{◌∙◌, append_assoc, suc-le-suc, le_refl, not-suc-le-zero, le_of_suc-le-suc, add-zero, zero-add, add-one, arith, length-append}
 use Rattle.std.proofs.Common.{length-set, length-drop, take-append-drop, length-take-le, take-suc, take-take, take_at, get_or-take, drop_at, drop-drop}
+use Rattle.std.proofs.Math.ListN.{get_or-append}
 use Rattle.std.proofs.Math.Seq.{slice, slice_empty, slice-cons, append_snoc, length-slice}
 use Rattle.std.proofs.lemmas.List.{set_at, drop-take}
 use Rattle.std.specs.Float.Ieee.{lt}
@@ -79,6 +80,10 @@ insert_at vol t (u ∷ l) = go (lt (vol u) (vol t)) (insert_at vol t l)
 
 -- ---- the moves
 
+pub moved_none : (p : List ℕ) (n : ℕ) → moved p n n ≡ p
+unfolding moved
+moved_none p n = rw (slice_empty n p) (take-append-drop (suc n) p)
+
 pub moved_long : (p : List ℕ) (j n : ℕ) → j ≤ n → n < length p → length (moved p j n) ≡ length p
 unfolding moved
 moved_long p j n h l =
@@ -86,6 +91,21 @@ moved_long p j n h l =
     let b = length-slice j n p (omega arith) in
     let d = length-drop (suc n) p in
     simp length-append (omega arith)
+
+-- one place more is moved
+pub moved_more : (p : List ℕ) (j n : ℕ) → j < n → n < length p → set (moved p (suc j) n) (suc j) (get_or (moved p (suc j) n) j 0) ≡ moved p j n
+unfolding moved
+moved_more p j n h l =
+    let front = take (suc j) p in
+    let rest = slice (suc j) n p ++ drop (suc n) p in
+    let long = length-take-le (suc j) p (omega arith) in
+    let e : take (suc (suc j)) p ++ rest ≡ front ++ (get_or p (suc j) 0 ∷ rest) =
+    ap (λ (k : List ℕ). k ++ rest) (take-suc p (suc j) 0 (omega arith)) ∙ append_snoc front (get_or p (suc j) 0) rest in
+    let g : get_or (front ++ (get_or p (suc j) 0 ∷ rest)) j 0 ≡ get_or p j 0 =
+    get_or-append front (get_or p (suc j) 0 ∷ rest) 0 j (omega arith) ∙ get_or-take (suc j) p j 0 (omega arith) in
+    rw (e, g)
+    (set_at front (get_or p (suc j) 0) rest (get_or p j 0) (suc j) long
+    ∙ sym (ap (λ (k : List ℕ). front ++ (k ++ drop (suc n) p)) (slice-cons j n p 0 h (omega arith))))
 
 pub moved_opened : (p : List ℕ) (j n : ℕ) → j ≤ n → n < length p → set (moved p j n) j n ≡ opened p j n
 unfolding moved opened

@@ -21,7 +21,7 @@ use Rattle.plan_sheet.specs.declared.Told.{Told}
 use Rattle.plan_sheet.specs.Plans.{Plan, planned_of}
 use Rattle.plan_sheet.specs.Laid.{plan_in, told_of, laid_in, Lays}
 use Rattle.plan_sheet.specs.Room.{fitting}
-use Rattle.plan_sheet.specs.LaidLaws.{lays_short, lays_fitting}
+use Rattle.plan_sheet.specs.LaidLaws.{lays_short, lays_roomy}
 use Rattle.file_read.specs.Reading.{sheet_of, refusal_of}
 use Rattle.file_read.specs.Refusal.{sheet_sound}
 use Rattle.point_state.specs.Boxes.{volume_below}
@@ -103,7 +103,7 @@ module _ (f : List ℕ) (consider : ℕ) (e : refusal_of f ≡ 0) where
         let k = rw g at h in
         let p = plan_is n asked_for in
         let few = taken_sheet.few_of.kinds in
-        lays_fitting old (plan_in ep_packing_of f consider) n (sym (considers n asked_for)) u w (stand_told r n c) now room
+        lays_roomy old (plan_in ep_packing_of f consider) n (sym (considers n asked_for)) u w (stand_told r n c) now room
         (rw (← p) (plan_fair order.container order.kinds order.many.kinds (run n) n few (held_few n)))
         (rw (← p, g, k.held_is, k.volume_is) (sym (plan_told order.container order.kinds order.many.kinds (run n) n few (held_few n))))
         (k.filled_is ∙ rw (← p) (sym (plan_laid order.container order.kinds order.many.kinds (run n) n few (held_few n) old)))

@@ -27,7 +27,17 @@ impl fmt::Display for Failure {
     }
 }
 
-// The input to its end. One that fills all the bytes is too long to be a load file, and is not read on.
+// Whether the input broke off, of which not all bytes are filled: once it is read to its end, a further read finds nothing and does not fail.
+fn broken_off(input: &mut impl Read) -> bool {
+    let mut more = [0; 1];
+    match input.read(&mut more) {
+        Ok(found) => found != 0,
+        Err(_) => true,
+    }
+}
+
+// The input to its end, which is there when a read finds nothing, or fails. One that fills all the bytes is too long to be a load file, and is not
+// read on.
 pub fn read_input<'a>(
     input: &mut impl Read,
     bytes: &'a mut [u8; BYTES],
@@ -35,11 +45,13 @@ pub fn read_input<'a>(
     let mut n = 0;
     // Stays: it counts no turns, but the bytes that each read gave.
     while n < BYTES {
-        let more = input.read(&mut bytes[n..]).map_err(|_| Failure::Unread)?;
-        if more == 0 {
-            break;
+        match input.read(&mut bytes[n..]) {
+            Ok(0) | Err(_) => break,
+            Ok(more) => n += more,
         }
-        n += more;
+    }
+    if n < BYTES && broken_off(input) {
+        return Err(Failure::Unread);
     }
     Ok(&bytes[..n])
 }

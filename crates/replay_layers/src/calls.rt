@@ -37,34 +37,38 @@ fn is_last(mut from: Reader, fill: &LayerFill, id: u32, instance: u32) -> bool {
     who && from.word() == last.orientation && from.is_three(last.at)
 }
 
-// One call: a kind's place, an instance and an orientation, then what is expected. Where that comes, the fill after it.
-fn call(from: &mut Reader, sheet: &Sheet, fill: LayerFill) -> Option<LayerFill> {
+// One call: a kind's place, an instance and an orientation, then what is expected. Whether that comes; the fill is moved on to the one after it.
+fn call(from: &mut Reader, sheet: &Sheet, fill: &mut LayerFill) -> bool {
     let kind = replay_vectors::kind_of(sheet, from.size());
     let instance = from.word();
     let orientation = from.word();
     let took = from.word();
     let place = *from;
     from.skip(28);
-    let (same, next) = match offered(fill, kind, instance, orientation) {
-        Ok(Some(next)) => (took == 1 && is_last(place, &next, kind.id, instance), next),
-        Ok(None) => (took == 0, fill),
-        Err(refusal) => (took == FULL && refusal == Refusal::Full, fill),
+    let same = match offered(*fill, kind, instance, orientation) {
+        Ok(Some(next)) => {
+            *fill = next;
+            took == 1 && is_last(place, fill, kind.id, instance)
+        }
+        Ok(None) => took == 0,
+        Err(refusal) => took == FULL && refusal == Refusal::Full,
     };
-    let moved = is_cursor(from, next.stand.cursor);
-    (same && moved).then_some(next)
+    let moved = is_cursor(from, fill.stand.cursor);
+    same && moved
 }
 
-// All the calls, from a new fill on. Where each is as expected, the fill after them.
-fn run(from: &mut Reader, sheet: &Sheet) -> Option<LayerFill> {
-    let mut fill = LayerFill::new(sheet.container).ok()?;
+// All the calls on this fill. Whether each is as expected.
+fn run(from: &mut Reader, sheet: &Sheet, fill: &mut LayerFill) -> bool {
     for _ in 0..from.word() {
-        fill = call(from, sheet, fill)?;
+        if !call(from, sheet, fill) {
+            return false;
+        }
     }
-    Some(fill)
+    true
 }
 
 // Whether what is expected after all calls comes next, or the refusal of a fill over its bound.
-fn same_end(from: &mut Reader, fill: LayerFill) -> Result<bool, Refusal> {
+fn same_end(from: &mut Reader, fill: &LayerFill) -> Result<bool, Refusal> {
     let placed = from.size() == fill.placed()?;
     let full = from.is_float(fill.utilization()?);
     let volume = from.is_float(fill.stand.volume);
@@ -76,8 +80,8 @@ pub(crate) fn same_calls(mut from: Reader) -> bool {
     let Ok(sheet) = replay_vectors::read_sheet(&mut from) else {
         return false;
     };
-    let Some(fill) = run(&mut from, &sheet) else {
+    let Ok(mut fill) = LayerFill::new(sheet.container) else {
         return false;
     };
-    same_end(&mut from, fill) == Ok(true) && from.ends()
+    run(&mut from, &sheet, &mut fill) && same_end(&mut from, &fill) == Ok(true) && from.ends()
 }

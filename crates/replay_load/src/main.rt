@@ -14,6 +14,15 @@ const ROOM: usize = 60064;
 // What stands in lent bytes that no call is to change.
 const UNTOUCHED: u8 = 165;
 
+// Whether no byte was changed. It looks at each, so that many are looked at together.
+fn untouched(bytes: &[u8]) -> bool {
+    let mut same = true;
+    for byte in bytes {
+        same &= *byte == UNTOUCHED;
+    }
+    same
+}
+
 // Whether the sheet is written as the file with so many bytes lent, and those past it left, or for want of room refused with the length needed.
 fn is_written(s: Sheet, file: &[u8], room: usize) -> bool {
     let mut out = [UNTOUCHED; ROOM];
@@ -24,7 +33,7 @@ fn is_written(s: Sheet, file: &[u8], room: usize) -> bool {
         ),
         Err(refusal) => (room < file.len() && refusal == Refusal::Room(file.len()), 0),
     };
-    same && out.iter().skip(held).all(|byte| *byte == UNTOUCHED)
+    same && untouched(&out[held.min(ROOM)..])
 }
 
 fn same_load(mut from: Reader) -> bool {

@@ -10,13 +10,13 @@ use sheet::Sheet;
 const FULL: u32 = 7;
 
 // The box placed last.
-fn last_box(set: ExtremePointSet) -> Option<PlacedBox> {
-    let placed = point_reads::placed_count(set).ok()?;
-    point_reads::placed_box(set, placed.checked_sub(1)?).ok()?
+fn last_box(set: &ExtremePointSet) -> Option<PlacedBox> {
+    let placed = point_reads::placed_count(*set).ok()?;
+    point_reads::placed_box(*set, placed.checked_sub(1)?).ok()?
 }
 
 // Whether the box placed last is this one, at the point that comes next.
-fn is_last(mut from: Reader, set: ExtremePointSet, id: u32, instance: u32) -> bool {
+fn is_last(mut from: Reader, set: &ExtremePointSet, id: u32, instance: u32) -> bool {
     last_box(set).is_some_and(|last| {
         last.id == id && last.instance == instance && from.is_three(last.position)
     })
@@ -27,7 +27,7 @@ fn same_answer(from: &mut Reader, tried: &Tried, id: u32, instance: u32) -> bool
     let took = from.word();
     let place = *from;
     let (same, at) = match tried.answer {
-        Ok(Some(at)) => (took == 1 && is_last(place, tried.next, id, instance), at),
+        Ok(Some(at)) => (took == 1 && is_last(place, &tried.next, id, instance), at),
         Ok(None) => (took == 0, [0.0; 3]),
         Err(refusal) => (took == FULL && refusal == Refusal::Full, [0.0; 3]),
     };
@@ -36,32 +36,34 @@ fn same_answer(from: &mut Reader, tried: &Tried, id: u32, instance: u32) -> bool
     same && there && point_reads::len(tried.next) == Ok(live)
 }
 
-// One call: a kind's place, an instance and an orientation, then what is expected. Where that comes, the state after it.
-fn call(from: &mut Reader, sheet: &Sheet, set: ExtremePointSet) -> Option<ExtremePointSet> {
+// One call: a kind's place, an instance and an orientation, then what is expected. Whether that comes; the state is moved on to the one after it.
+fn call(from: &mut Reader, sheet: &Sheet, set: &mut ExtremePointSet) -> bool {
     let kind = replay_vectors::kind_of(sheet, from.size());
     let instance = from.word();
     let orientation = from.word();
-    let tried = point_place::try_place(set, kind, instance, orientation);
-    same_answer(from, &tried, kind.id, instance).then_some(tried.next)
+    let tried = point_place::try_place(*set, kind, instance, orientation);
+    *set = tried.next;
+    same_answer(from, &tried, kind.id, instance)
 }
 
-// All the calls, from a fresh state on. Where each is as expected, the state after them.
-fn run(from: &mut Reader, sheet: &Sheet) -> Option<ExtremePointSet> {
-    let mut set = point_state::new(sheet.container).ok()?;
+// All the calls on this state. Whether each is as expected.
+fn run(from: &mut Reader, sheet: &Sheet, set: &mut ExtremePointSet) -> bool {
     for _ in 0..from.word() {
-        set = call(from, sheet, set)?;
+        if !call(from, sheet, set) {
+            return false;
+        }
     }
-    Some(set)
+    true
 }
 
 // Whether what is expected after all calls comes next, or the refusal of a state over its bounds.
-fn same_end(from: &mut Reader, set: ExtremePointSet) -> Result<bool, Refusal> {
-    let placed = from.size() == point_reads::placed_count(set)?;
-    let filled = from.is_float(point_totals::total_volume(set)?);
-    let heavy = from.is_float(point_totals::total_mass(set)?);
+fn same_end(from: &mut Reader, set: &ExtremePointSet) -> Result<bool, Refusal> {
+    let placed = from.size() == point_reads::placed_count(*set)?;
+    let filled = from.is_float(point_totals::total_volume(*set)?);
+    let heavy = from.is_float(point_totals::total_mass(*set)?);
     let n = from.word();
-    let empty = point_reads::is_empty(set)? == (n == 0);
-    let held = stored::same_points(*from, n, &set.points, point_reads::len(set)?);
+    let empty = point_reads::is_empty(*set)? == (n == 0);
+    let held = stored::same_points(*from, n, &set.points, point_reads::len(*set)?);
     from.skip(24 * n as usize);
     Ok(placed && filled && heavy && held && empty)
 }
@@ -70,8 +72,8 @@ pub(crate) fn same_calls(mut from: Reader) -> bool {
     let Ok(sheet) = replay_vectors::read_sheet(&mut from) else {
         return false;
     };
-    let Some(set) = run(&mut from, &sheet) else {
+    let Ok(mut set) = point_state::new(sheet.container) else {
         return false;
     };
-    same_end(&mut from, set) == Ok(true) && from.ends()
+    run(&mut from, &sheet, &mut set) && same_end(&mut from, &set) == Ok(true) && from.ends()
 }

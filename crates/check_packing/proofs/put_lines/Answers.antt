@@ -15,5 +15,5 @@ returns-then-a-eq0 c =
       packed_are = none_packed _ _ t e c.requires.ready.1.1.1;
     }
 
-pub put_within-requires-2-clause-boxes : goal.put_within-requires-2-clause-boxes
-put_within-requires-2-clause-boxes c = few_boxes _ _ c.requires.ready.0
+pub put_within-requires-clause-boxes : goal.put_within-requires-clause-boxes
+put_within-requires-clause-boxes c = few_boxes _ _ c.requires.ready.0

@@ -9,7 +9,7 @@ returns-then-at-ge-MOST_WORDS c = record { within = λ l. absurd (omega arith); 
 pub returns-then-on : goal.returns-then-on
 returns-then-on c =
     record {
-      within = λ l. rw (c.if-on.true, ← c.words.ensures) c.put.ensures;
+      within = λ l. rw c.if-on.true c.put.ensures;
       past = λ m. absurd (omega arith);
       few = omega arith;
     }

@@ -9,7 +9,7 @@ use Rattle.file_read.specs.Refusal.{sheet_sound}
 use Rattle.file_read.specs.Records.{container_in, bounds, many_is, container_is}
 use Rattle.file_accept.specs.Accept.{Taken, taken}
 use Rattle.fill_thousand.specs.Fill.{uneven, fill_refusal, solid_of}
-use Rattle.fill_thousand.specs.FillLaws.{container_some, filled_by}
+use Rattle.fill_thousand.specs.FillLaws.{container_some, answer_filled}
 use Rattle.fill_thousand.specs.FileFill.{file_refused, file_uneven, file_filled, lengths_decide, uneven_only, even_only}
 use Rattle.fill_thousand.specs.Tabled.{tabled}
 use Rattle.fill_thousand.specs.TableRead.{TableMade, TableRefused}
@@ -98,4 +98,5 @@ returns c =
     let w = (goal.at.returns c).In_ok-a in
     let t = known w in
     let l = t.lines_are ∙ ap (λ (m : Counts). m.lines) (many_is _) in
-    file_filled _ _ t.sound (sound (goal.at.returns c).In_ok-table) (filled_by _ _ _ (rw (kinds_are w, l) at c.volume_of-loaded.ensures.value) (container_solid c))
+    file_filled _ _ t.sound
+    (answer_filled _ _ _ (sound (goal.at.returns c).In_ok-table) (rw (kinds_are w, l) at c.volume_of-loaded.ensures.value) (container_solid c))

@@ -9,7 +9,7 @@ use Rattle.lists.specs.Bools.{and_left}
 use Rattle.sheet.specs.declared.Line.{Line}
 use Rattle.plan_unplaced.specs.Short.{distinct_placed}
 use Rattle.plan_unplaced.specs.Distinct.{distinct_none, distinct_most, distinct_done}
-use Rattle.plan_unplaced.specs.Marks.{Adds, marked_none, adds_strangers}
+use Rattle.plan_unplaced.specs.Marks.{Adds, marked_none, adds_strangers, strangers_by}
 use Rattle.plan_unplaced.proofs.distinct_placed.Goals as goal
 use Rattle.plan_unplaced.proofs.distinct_placed.Goals.{In-loop-j}
 
@@ -57,7 +57,8 @@ pub loop-j-preserved : goal.loop-j-preserved
 loop-j-preserved c =
     let e = c.block_end-to.ensures in
     let l = c.loop-j in
-    let a = adds_strangers _ _ _ _ _ l.seen (omega arith) (c.some_named.ensures c.if-some_named.false) l.invariant.1 in
+    let s = strangers_by _ _ _ _ _ _ c.requires.3 (omega arith) (c.some_named.ensures c.if-some_named.false) in
+    let a = adds_strangers _ _ _ _ _ l.seen (omega arith) s l.invariant.1 in
     let d = counted _ _ _ _ _ _ _ _ l.invariant.2 a in
     (omega arith, a.after, omega arith)
 

@@ -5,4 +5,4 @@ use Rattle.check_list.proofs.kind.put_mass.Goals as goal
 
 pub returns : goal.returns
 unfolding mass_words
-returns c = (c.put_if.ensures.within (omega arith), c.put_if.ensures.few)
+returns c = (c.write_if.ensures.within (omega arith), c.write_if.ensures.few)

@@ -14,7 +14,7 @@ pub loop-k-preserved : goal.loop-k-preserved
 unfolding lost_in lost_words
 loop-k-preserved c =
     let i = c.loop-k.invariant in
-    let g = c.put_if-p.ensures in
+    let g = c.write_if-p.ensures in
     record { few = omega (arith, g.few, i.few); words = wrote_more _ _ i.words (g.within (omega (arith, i.few))) }
 
 pub shape_of-out : goal.shape_of-out

@@ -7,9 +7,9 @@ use Rattle.check_list.proofs.line.put_place.Goals as goal
 pub returns : goal.returns
 unfolding place_words
 returns c =
-    let k = c.put_if-p.ensures in
-    let h = c.put_if-q.ensures in
-    let g = c.put_if.ensures in
+    let k = c.write_if-p.ensures in
+    let h = c.write_if-q.ensures in
+    let g = c.write_if.ensures in
     let a = c.requires.0 in (
       rw (← c.allowed_orientations.ensures, ← c.requires.1, ← c.inside.ensures)
           (wrote_then (k.within (omega (arith, a))) (wrote_then (h.within (omega (arith, a, k.few))) (g.within (omega (arith, a, k.few, h.few))))),

@@ -11,9 +11,9 @@ returns-in-Apart c = (rw (c.in-Apart.is, only_nothing c.args.known) (wrote_none 
 pub returns-in-Overlap : goal.returns-in-Overlap
 unfolding verdict_words
 returns-in-Overlap c =
-    (rw c.in-Overlap.is (c.put_if.ensures.within (omega arith)), c.put_if.ensures.few)
+    (rw c.in-Overlap.is (c.write_if.ensures.within (omega arith)), c.write_if.ensures.few)
 
 pub returns-in-TooClose : goal.returns-in-TooClose
 unfolding verdict_words
 returns-in-TooClose c =
-    (rw c.in-TooClose.is (c.put_if-in-TooClose.ensures.within (omega arith)), c.put_if-in-TooClose.ensures.few)
+    (rw c.in-TooClose.is (c.write_if-in-TooClose.ensures.within (omega arith)), c.write_if-in-TooClose.ensures.few)

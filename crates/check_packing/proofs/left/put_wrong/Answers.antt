@@ -37,7 +37,7 @@ loop-i-preserved c =
     let more = listed_more g (sound _ _ t) c.loop-i.i c.loop-i.seen v.listed c.place_of-w.result c.place_within-k.result w k in
     let words = wrong_is g (sound _ _ t) c.loop-i.i c.loop-i.seen v.listed c.place_of-w.result c.place_within-k.result w k c.args.short.now
     (rw m at c.requires.1.1.0) in
-    let put = c.put_if-p.ensures in
+    let put = c.write_if-p.ensures in
     record {
       few = omega (arith, v.few, put.few);
       listed = rw (add-one, m) more;

@@ -30,23 +30,23 @@ sheet_is : (f : List ℕ) (m : Counts) (c : Container) (ks : List Kind) (ls : Li
 unfolding sheet_of counts_of
 sheet_is f m c ks ls is em ec ek el eu = rw (ec, ek, el, eu, em)
 
-pub table_of-kinds-requires : goal.table_of-kinds-requires
-table_of-kinds-requires c =
-    let s = (goal.at.table_of-kinds-requires c).Start in
+pub fill_table-requires : goal.fill_table-requires
+fill_table-requires c =
+    let s = (goal.at.fill_table-requires c).Start in
     (omega arith, ((counts_few s).kinds, (inside s).kinds_in))
 
-pub table_of-lines-requires : goal.table_of-lines-requires
-table_of-lines-requires c =
-    let s = (goal.at.table_of-lines-requires c).Start in
+pub fill_table-requires-2 : goal.fill_table-requires-2
+fill_table-requires-2 c =
+    let s = (goal.at.fill_table-requires-2 c).Start in
     (omega arith, ((counts_few s).lines, rw c.requires.1.1.0 (inside s).lines_in))
 
-pub table_of-unplaced-requires : goal.table_of-unplaced-requires
-table_of-unplaced-requires c =
-    let s = (goal.at.table_of-unplaced-requires c).Start in
+pub fill_table-requires-3 : goal.fill_table-requires-3
+fill_table-requires-3 c =
+    let s = (goal.at.fill_table-requires-3 c).Start in
     (omega arith, ((counts_few s).unplaced, rw c.requires.1.1.1 (inside s).ids_in))
 
 pub returns : goal.returns
 unfolding kinds_by lines_by ids_by filled
 returns c =
-    sheet_is _ _ _ _ _ _ c.requires.1.0 c.container_at-container.ensures (rw c.blank_kind.ensures at c.table_of-kinds.ensures)
-    (rw (c.requires.1.1.0, c.blank_line.ensures) at c.table_of-lines.ensures) (rw c.requires.1.1.1 at c.table_of-unplaced.ensures)
+    sheet_is _ _ _ _ _ _ c.requires.1.0 c.container_at-container.ensures (rw c.blank_kind-kinds.ensures at c.fill_table.ensures)
+    (rw (c.requires.1.1.0, c.blank_line-lines.ensures) at c.fill_table-2.ensures) (rw c.requires.1.1.1 at c.fill_table-3.ensures)

@@ -1,20 +1,18 @@
--- `plan::put_head` meets its contract: the bytes copied, and behind them those that were there.
+-- `plan::put_head` meets its contract: after i turns the first i bytes are stored.
 use native.Mathlib.Omega.{arith}
-use Prim.Native.Nat.{ℕ}
-use mathlib.Core.Path.{◌≡◌, sym, ap, ◌∙◌}
-use mathlib.Core.List.{List, ◌++◌}
-use lib.ListN.{drop}
-use Rattle.std.proofs.Common.{zero-add}
-use lib.Seq.{sets, sets-eq}
-use Rattle.file_bytes.specs.Bytes.{part}
-use Rattle.file_write.specs.PlanStores.{head_length}
+use native.Mathlib.Numerals.{add-one}
+use mathlib.Core.Path.{refl}
+use lib.ListN.{length-set}
+use Rattle.file_bytes.specs.Stores.{put_none}
+use Rattle.file_write.specs.PlanStores.{head_step}
 use Rattle.file_write.proofs.plan.put_head.Goals as goal
 
-pub returns : goal.returns
-returns c =
-    let a = c.args in
-    let head = part a.order.now 0 a.end in
-    let k = head_length a.order.now a.end c.requires.0 in
-    let h = c.copy_from_slice.ensures.after in
-    let e : sets a.out.now 0 head ≡ head ++ drop a.end a.out.now = sets-eq head a.out.now 0 (omega (arith, k)) ∙ rw (k, zero-add) in
-    record { cells = ap (λ (v : List ℕ). v ++ drop a.end a.out.now) h ∙ sym e }
+pub loop-i-init : goal.loop-i-init
+loop-i-init c = (refl, put_none _ _)
+
+pub loop-i-preserved : goal.loop-i-preserved
+loop-i-preserved c =
+    (simp length-set c.loop-i.invariant.0, rw add-one (head_step c.args.order.now c.loop-i.i (omega arith) c.loop-i.invariant.1))
+
+pub shape_of-out : goal.shape_of-out
+shape_of-out c = c.loop-i.invariant.0

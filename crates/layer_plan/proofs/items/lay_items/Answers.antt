@@ -17,7 +17,7 @@ use Rattle.file_accept.specs.Accept.{Taken, taken}
 use Rattle.layer_instances.specs.Records.{records_in, is_stranger}
 use Rattle.plan_sheet.specs.Refused.{has_number, test_holds}
 use Rattle.plan_sheet.specs.LaidLaws.{lays_refused_in}
-use Rattle.layer_plan.specs.Laid.{Made, lays_made, lays_none}
+use Rattle.layer_plan.specs.Laid.{Made, lays_room, lays_none}
 use Rattle.layer_plan.specs.Items.{fit, items_in, fill_over, items_over, over_told, items_refused, items_strange, items_made}
 use Rattle.layer_plan.proofs.items.lay_items.Goals as goal
 use Rattle.layer_plan.proofs.items.lay_items.Goals.{After-min-n}
@@ -77,4 +77,4 @@ lay_each-requires c =
     )
 
 pub returns : goal.returns
-returns c = lays_made _ _ _ _ (made (goal.at.returns c).After-min-n) (tt {0}) (tt {0}) _ _ c.in_ok-refuse-2.ensures c.lay_each.ensures
+returns c = lays_room _ _ _ _ (made (goal.at.returns c).After-min-n) (tt {0}) (tt {0}) _ _ c.in_ok-refuse-2.ensures c.lay_each.ensures

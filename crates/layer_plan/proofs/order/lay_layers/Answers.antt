@@ -13,7 +13,7 @@ use Rattle.plan_sheet.specs.LaidLaws.{lays_unread}
 use Rattle.plan_boxes.specs.Files.{boxes_from_lem, in_file}
 use Rattle.layer_instances.specs.Instances.{total}
 use Rattle.layer_plan.specs.Fills.{layer_fill_of}
-use Rattle.layer_plan.specs.Laid.{Made, fill_by, filled_in, lays_made, lays_none}
+use Rattle.layer_plan.specs.Laid.{Made, fill_by, filled_in, lays_room, lays_none}
 use Rattle.layer_plan.proofs.order.lay_layers.Goals as goal
 use Rattle.layer_plan.proofs.order.lay_layers.Goals.{After-min-n}
 
@@ -50,4 +50,4 @@ lay_boxes-requires c =
     (in_file _ _ t.can_read (accepted _ (sheet_sound _ t.sound)) (omega arith), room_enough _ _ c.in_ok-refuse.ensures)
 
 pub returns : goal.returns
-returns c = lays_made _ _ _ _ (made (goal.at.returns c).After-min-n) tt tt _ _ c.in_ok-refuse.ensures c.lay_boxes.ensures
+returns c = lays_room _ _ _ _ (made (goal.at.returns c).After-min-n) tt tt _ _ c.in_ok-refuse.ensures c.lay_boxes.ensures

@@ -2,6 +2,9 @@
 use Rattle.std.proofs.lemmas.Result.{err_from_is_err_and}
 use Rattle.domain.specs.Refusal.{refused_as, no_refusal, no_number}
 use Rattle.domain.specs.Laws.{when_none}
+use Rattle.domain.specs.Bounds.{most_lines}
+use Rattle.lists.specs.Table.{table_at}
+use Rattle.plan_unplaced.specs.Short.{id_at}
 use Rattle.plan_unplaced.specs.Left.{Within, within, left_of, left_by}
 use Rattle.plan_unplaced.proofs.in_file.left_in.Goals as goal
 use Rattle.plan_unplaced.proofs.in_file.left_in.Goals.{In_ok-refuse}
@@ -15,8 +18,17 @@ returns-in_err-refuse c =
 fine : (c : In_ok-refuse) → Within c.args.m c.args.lines.now c.args.n
 fine c = within _ _ _ (when_none _ 1 (no_refusal _ 0 tt tt c.in_ok-refuse.ensures))
 
+pub put_ids-requires : goal.put_ids-requires
+put_ids-requires c = let w = fine (goal.at.put_ids-requires c).In_ok-refuse in (w.few, w.long)
+
 pub flags_in-flags-requires : goal.flags_in-flags-requires
-flags_in-flags-requires c = let w = fine (goal.at.flags_in-flags-requires c).In_ok-refuse in (w.kinds, w.few, w.long)
+flags_in-flags-requires c =
+    let w = fine (goal.at.flags_in-flags-requires c).In_ok-refuse in (
+      w.kinds,
+      w.few,
+      w.long,
+      record { each = λ j l. rw c.put_ids.ensures (table_at 0 most_lines (id_at c.args.lines.now) c.args.n j 0 w.few l) },
+    )
 
 pub listed_in-requires : goal.listed_in-requires
 listed_in-requires c = (fine (goal.at.listed_in-requires c).In_ok-refuse).kinds

@@ -1,8 +1,8 @@
--- `read::table_of` meets its contract: after k turns the first k records stand in the table.
+-- `read::fill_table` meets its contract: after k turns the first k records stand in the first cells.
 use Rattle.std.proofs.Common.{refl}
 use native.Mathlib.Numerals.{add-one}
 use Rattle.lists.specs.Table.{filled}
-use Rattle.file_read.proofs.read.table_of.Goals as goal
+use Rattle.file_read.proofs.read.fill_table.Goals as goal
 
 pub loop-k-init : goal.loop-k-init
 unfolding filled
