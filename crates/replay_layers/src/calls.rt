@@ -57,7 +57,8 @@ fn call(from: &mut Reader, sheet: &Sheet, fill: &mut LayerFill) -> bool {
     same && moved
 }
 
-// All the calls on this fill. Whether each is as expected.
+// All the calls on this fill. Whether each is as expected. It stands by itself, so that the fills that it hands on take no stack while the sheet is read.
+#[inline(never)]
 fn run(from: &mut Reader, sheet: &Sheet, fill: &mut LayerFill) -> bool {
     for _ in 0..from.word() {
         if !call(from, sheet, fill) {
