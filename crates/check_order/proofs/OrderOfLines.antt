@@ -9,7 +9,7 @@ use Rattle.sheet.specs.declared.Sheet.{Sheet}
 use Rattle.sheet.specs.Sheets.{no_kind, no_line, kind_at, line_at, unplaced_at, sheet_refusal}
 use Rattle.sheet.specs.Accepted.{Accepted, accepted}
 use Rattle.domain.specs.Numbers.{number_in}
-use Rattle.check_packing.specs.Check.{checked_of}
+use Rattle.check_packing.specs.Check.{check_refusal, checked_of}
 use Rattle.check_order.specs.Demand.{lines_of, Reordered, Renumbered, pick, change, own_of, pair_of, line_aside, lines_aside, SameFindings, written}
 use Rattle.check_order.specs.Below.{three_ways}
 use Rattle.check_order.specs.Reordered.{other, as_other, renumbered}
@@ -22,7 +22,7 @@ use Rattle.check_order.specs.Unplaced.{unplaced_same}
 use Rattle.check_order.specs.Mass.{mass_finding_same}
 use Rattle.check_packing.specs.Findings.{findings}
 use Rattle.check_order.specs.ByLine.{own_findings, pair_words}
-use Rattle.check_order.specs.OrderOfLines.{written_findings}
+use Rattle.check_order.specs.OrderOfLines.{written_findings, number_answered, taken, written_taken}
 
 -- ---- the second sheet as the first with other lists
 
@@ -102,3 +102,11 @@ pub order_of_lines_written : (s t : Sheet) (o q : List ℕ) → Reordered s t �
 order_of_lines_written s t o q r p h k =
     subst (λ (v : List ℕ). SameFindings s p.to v (written t q)) (sym (written_findings s o h))
     (subst (λ (v : List ℕ). SameFindings s p.to (findings s) v) (sym (written_findings t q k)) (order_of_lines s t r p))
+
+-- The same by what the two sheets and their cells are refused by, and by how many findings there are.
+pub order_of_lines_taken : (s t : Sheet) (o q : List ℕ) → Reordered s t → (p : Renumbered s t) → check_refusal s o ≡ 0 → check_refusal t q ≡ 0
+    → SameFindings s p.to (taken s o) (taken t q)
+order_of_lines_taken s t o q r p h k =
+    subst (λ (v : List ℕ). SameFindings s p.to v (taken t q)) (written_taken s o)
+    (subst (λ (v : List ℕ). SameFindings s p.to (written s o) v) (written_taken t q)
+    (order_of_lines_written s t o q r p (number_answered s o ∙ h) (number_answered t q ∙ k)))

@@ -1,14 +1,16 @@
 -- Beside the theorems on the order of lines (proofs/OrderOfLines.antt): no finding is left out of their comparison, and what a call writes are the findings.
-use Rattle.std.specs.Prelude.{◌≡◌, refl, Bool, cond, ℕ, suc, ◌*◌, ◌/◌, ◌≤◌, ltb, length, take, drop}
-use Rattle.std.proofs.Common.{sym, ap, ◌∙◌, inl, inr, mul_comm, mul-div_cancel, zero-lt-suc, arith, eq-eqb, le-ltb}
+use Rattle.std.specs.Prelude.{◌≡◌, refl, Bool, true, false, cond, ℕ, zero, suc, ◌*◌, ◌/◌, ◌≤◌, eqb, ltb, length, take, drop, Result}
+use Rattle.std.proofs.Common.{sym, ap, ◌∙◌, inl, inr, mul_comm, mul-div_cancel, zero-lt-suc, arith, eq-eqb, ne_eqb, le-ltb}
 use mathlib.Core.List.{List, [], ◌∷◌, ◌++◌}
 use Rattle.std.proofs.Math.Seq.{take-append_seam}
 use Rattle.domain.specs.Refusals.{when, or_else}
-use Rattle.domain.specs.Refusal.{answer_with}
-use Rattle.domain.specs.Numbers.{number_in, unnumbered}
+use Rattle.domain.specs.declared.Refusal.{Refusal}
+use Rattle.domain.specs.Refusal.{needed_of, refusal_by, answer_with}
+use Rattle.domain.specs.Numbers.{Numbered, when_numbered, or_numbered, number_in, number_is, unnumbered}
 use Rattle.domain.specs.Laws.{or_else_first}
 use Rattle.sheet.specs.declared.Sheet.{Sheet}
 use Rattle.sheet.specs.Sheets.{sheet_refusal}
+use Rattle.file_read.specs.Numbered.{sheet_numbered}
 use Rattle.check_packing.specs.Check.{check_refusal, count_of, checked_of, cells_of}
 use Rattle.check_order.specs.Demand.{count_in, written, Compared}
 use Rattle.check_order.specs.Demand.{Each}
@@ -55,8 +57,12 @@ pub not_refused : (s : Sheet) (o : List ℕ) → sheet_refusal s ≡ 0 → lengt
 unfolding checked_of check_refusal or_else answer_with
 not_refused s o h l = rw (h, le-ltb (length o) (length (findings s)) l) refl
 
--- the words of as many findings as there are, where there is no refusal
-taken_findings : (s : Sheet) (o : List ℕ) → check_refusal s o ≡ 0 → take (5 * count_of s) (cells_of s o) ≡ findings s
+-- as many findings as there are, five words each, of what the cells hold after a call
+abbrev pub taken : Sheet → List ℕ → List ℕ
+taken s o = take (5 * count_of s) (cells_of s o)
+
+-- they are the findings where there is no refusal
+pub taken_findings : (s : Sheet) (o : List ℕ) → check_refusal s o ≡ 0 → taken s o ≡ findings s
 unfolding check_refusal count_of cells_of
 taken_findings s o h =
     ap (λ (v : Bool). take (5 * cond v (length (findings s) / 5) 0) (cells_of s o))
@@ -71,3 +77,47 @@ unfolding checked_of
 written_findings s o h =
     let e = unnumbered (check_refusal s o) (count_of s) (count_of s) h in
     ap (λ (v : ℕ). take (5 * v) (cells_of s o)) (counted s o e) ∙ taken_findings s o e
+
+-- ---- the same by what the sheet and the cells are refused by and by how many findings there are, of which the call's answer is made
+
+check_numbered : (s : Sheet) (o : List ℕ) → Numbered (check_refusal s o)
+unfolding check_refusal
+check_numbered s o = or_numbered _ _ (sheet_numbered s) (when_numbered _ 6 (omega arith))
+
+-- the answer's number is what is refused by
+pub number_answered : (s : Sheet) (o : List ℕ) → number_in (checked_of s o) ≡ check_refusal s o
+unfolding checked_of
+number_answered s o = number_is (check_refusal s o) (count_of s) (count_of s) (check_numbered s o)
+
+-- none of the nine needs room where nothing is needed
+none_needed : (n : ℕ) → Numbered n → needed_of (refusal_by n 0) ≡ 0
+none_needed zero h = refl
+none_needed (suc zero) h = refl
+none_needed (suc (suc zero)) h = refl
+none_needed (suc (suc (suc zero))) h = refl
+none_needed (suc (suc (suc (suc zero)))) h = refl
+none_needed (suc (suc (suc (suc (suc zero))))) h = refl
+none_needed (suc (suc (suc (suc (suc (suc zero)))))) h = refl
+none_needed (suc (suc (suc (suc (suc (suc (suc zero))))))) h = refl
+none_needed (suc (suc (suc (suc (suc (suc (suc (suc zero)))))))) h = refl
+none_needed (suc (suc (suc (suc (suc (suc (suc (suc (suc zero))))))))) h = refl
+none_needed (suc (suc (suc (suc (suc (suc (suc (suc (suc (suc n)))))))))) h = absurd (omega arith)
+
+-- the answer says how many there are, refused for want of room too; of a sheet that is refused, none
+pub count_answered : (s : Sheet) (o : List ℕ) → count_in (checked_of s o) ≡ count_of s
+unfolding checked_of check_refusal count_of or_else answer_with
+count_answered s o = go (sheet_refusal s) (sheet_numbered s) (ltb (length o) (length (findings s))) (length (findings s) / 5)
+  where
+    go : (r : ℕ) → Numbered r → (short : Bool) (n : ℕ)
+        → count_in (answer_with (or_else r (when short 6)) (cond (eqb r 0) n 0) (cond (eqb r 0) n 0)) ≡ cond (eqb r 0) n 0
+    go zero h true n = refl
+    go zero h false n = refl
+    go (suc r) h short n = rw (ne_eqb (suc r) 0 (λ e. omega arith)) (none_needed (suc r) h)
+
+-- so what a call writes are as many as there are
+pub written_taken : (s : Sheet) (o : List ℕ) → written s o ≡ taken s o
+written_taken s o = ap (λ (n : ℕ). take (5 * n) (cells_of s o)) (count_answered s o)
+
+-- an accepted sheet, with room lent for all findings, is refused by nothing
+pub refused_by_none : (s : Sheet) (o : List ℕ) → sheet_refusal s ≡ 0 → length (findings s) ≤ length o → check_refusal s o ≡ 0
+refused_by_none s o h l = sym (number_answered s o) ∙ not_refused s o h l

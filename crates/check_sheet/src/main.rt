@@ -2,7 +2,7 @@
 
 #![tactic(auto)]
 
-use program_io::{BYTES, Failure};
+use program_io::{BYTES, Failure, Whole};
 use show_finding::Finding;
 use std::io;
 
@@ -30,7 +30,8 @@ fn write_answer(rt: &impl Print, load: &[u8]) -> io::Result<()> {
 
 fn run(rt: &HostRuntime) -> Result<(), Failure> {
     let mut bytes = [0; BYTES];
-    let load = program_io::read_input(&mut rt.stdin(), &mut bytes)?;
+    let mut stdin = rt.stdin();
+    let load = program_io::read_input(&mut Whole { input: &mut stdin }, &mut bytes)?;
     write_answer(rt, load).map_err(|_| Failure::Unwritten)
 }
 

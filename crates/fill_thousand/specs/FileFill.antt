@@ -5,7 +5,7 @@ use Rattle.lists.specs.Below.{any_below, any_none}
 use Rattle.domain.specs.declared.Refusal.{Refusal}
 use Rattle.domain.specs.declared.Refusal.TheVariants.{Uneven}
 use Rattle.domain.specs.Refusals.{when}
-use Rattle.domain.specs.Refusal.{answer_of, answer_with, refused_or, or_refuses}
+use Rattle.domain.specs.Refusal.{answer_of, answer_with, refused_or, or_refuses, no_number}
 use Rattle.file_read.specs.Reading.{sheet_of, refusal_of}
 use Rattle.file_read.specs.Refusal.{sheet_sound}
 use Rattle.fill_thousand.specs.Fill.{uneven, uneven_kind, fill_refusal, per_thousand, fill_of}
@@ -44,6 +44,11 @@ file_uneven f r h e k = rw (h, ← (lengths_decide f true h (rw e refl)), k) ref
 pub file_filled : (f : List ℕ) (x : Result ℕ Refusal) → refusal_of f ≡ 0 → x ≡ fill_of (sheet_of f) → x ≡ file_fill f
 unfolding file_fill refused_or
 file_filled f x h e = rw (h, e) refl
+
+-- so where nothing refuses, the fill of the sheet is answered
+pub file_filled_by : (f : List ℕ) (v : ℕ) → refusal_of f ≡ 0 → fill_refusal (sheet_of f) ≡ 0 → v ≡ per_thousand (sheet_of f) → Ok v ≡ file_fill f
+unfolding fill_of
+file_filled_by f v h k e = file_filled f (Ok v) h (rw e (no_number (fill_refusal (sheet_of f)) 0 (per_thousand (sheet_of f)) k))
 
 -- ---- what a test of lengths that was asked says
 

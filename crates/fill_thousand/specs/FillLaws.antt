@@ -1,6 +1,6 @@
 -- What the refusal of a fill says of its sheet, and the answer in either case.
 use Rattle.std.specs.Prelude.{◌≡◌, ℕ, zero, suc, ◌*◌, ◌/◌, ◌<◌, false, ◌||◌, List, ◌==◌, ◌≢◌, refl, Float, Ok, Err}
-use Rattle.std.proofs.Common.{mul-pos, arith, sym, ap, ◌∙◌}
+use Rattle.std.proofs.Common.{mul-pos, arith, sym, ap}
 use Rattle.floats.specs.Ops.{x, y, z}
 use Rattle.floats.specs.Weak.{true_false}
 use Rattle.lists.specs.Below.{any_below, sum_below}
@@ -68,5 +68,5 @@ answer_refused s (suc r) e h = rw (← e) refl
 pub answer_filled : (s : Sheet) (v q : ℕ)
     → fill_refusal s ≡ 0 → v ≡ sum_below (line_volume s.kinds s.many.kinds s.lines) s.many.lines → q ≡ solid_of s.container.size
     → Ok (v * 1000 / q) ≡ fill_of s
-unfolding fill_of
-answer_filled s v q h e f = ap Ok (filled_by s v q e f) ∙ no_number (fill_refusal s) 0 (per_thousand s) h
+unfolding fill_of per_thousand
+answer_filled s v q h e f = rw (← e, ← f) (no_number (fill_refusal s) 0 (v * 1000 / q) h)

@@ -5,7 +5,7 @@
 mod list; // list.rt: a plan as text
 mod words; // words.rt: the words that the planner is started with
 
-use program_io::{BYTES, Failure};
+use program_io::{BYTES, Failure, Whole};
 use std::env::{Env, FillError};
 use std::io;
 use words::{Asked, Engine};
@@ -59,7 +59,8 @@ fn write_plan(rt: &(impl Print + Eprint), order: &[u8], asked: Asked) -> io::Res
 
 fn run(rt: &HostRuntime, asked: Asked) -> Result<(), Failure> {
     let mut bytes = [0; BYTES];
-    let order = program_io::read_input(&mut rt.stdin(), &mut bytes)?;
+    let mut stdin = rt.stdin();
+    let order = program_io::read_input(&mut Whole { input: &mut stdin }, &mut bytes)?;
     write_plan(rt, order, asked).map_err(|_| Failure::Unwritten)
 }
 

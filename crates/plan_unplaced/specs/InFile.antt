@@ -1,20 +1,23 @@
 -- The kinds that bytes say, which for an accepted file are those of its sheet; and the unplaced list of a file.
-use Rattle.std.specs.Prelude.{◌≡◌, refl, List, ℕ, ◌<◌, ◌≤◌, get_or, replicate, Result}
+use Rattle.std.specs.Prelude.{◌≡◌, refl, List, ℕ, zero, suc, ◌<◌, ◌≤◌, get_or, replicate, Result}
 use Rattle.std.proofs.Common.{◌∙◌, ap}
 use Rattle.lists.specs.Table.{table, table_at, table_length, table_same, filled}
 use Rattle.domain.specs.Bounds.{most_kinds, most_lines}
 use Rattle.domain.specs.declared.Refusal.{Refusal}
 use Rattle.domain.specs.Refusals.{when}
-use Rattle.domain.specs.Refusal.{answer_of, refused_or}
+use Rattle.domain.specs.Refusal.{answer_of, answer_with, refused_or}
 use Rattle.measures.specs.declared.Kind.{Kind}
+use Rattle.sheet.specs.declared.Counts.{Counts}
 use Rattle.sheet.specs.declared.Line.{Line}
+use Rattle.sheet.specs.declared.Sheet.{Sheet}
 use Rattle.sheet.specs.Sheets.{no_kind, no_line, blank_kind, blank_line, line_at}
 use Rattle.file_read.specs.Form.{counts_of}
 use Rattle.file_read.specs.Reading.{kind_from, kind_place, kinds_by, sheet_of, refusal_of}
 use Rattle.file_read.specs.Tables.{kinds_at}
 use Rattle.file_read.specs.Records.{kind_in, Readable, bounds, kind_is, many_is}
+use Rattle.file_accept.specs.Accept.{readable}
 use Rattle.plan_unplaced.specs.declared.Left.{Left}
-use Rattle.plan_unplaced.specs.Left.{over_bound, left_of, left_by, left_long, unplaced_of}
+use Rattle.plan_unplaced.specs.Left.{over_bound, left_of, left_by, left_long, none_over, unplaced_of}
 use Rattle.plan_unplaced.specs.Same.{same_lines}
 
 -- the first m kinds, blank past them
@@ -46,3 +49,23 @@ unplaced_is f z m n r kinds_are lines_are lines e =
     left_long (kinds_in f m) m lines n (rw (e, table_length blank_line most_lines (line_at (sheet_of f)) n) few)
     ∙ ap (λ (l : Left). answer_of (when (over_bound m n) 2) l) same
     ∙ rw (z, kinds_are, lines_are, kinds_in_is f r, ← (many_is f)) refl
+
+-- what a sheet's own lines leave
+abbrev pub left_of_sheet : Sheet → Left
+left_of_sheet s = left_by s.kinds s.many.kinds s.lines s.many.lines
+
+-- a file that is not refused says no counts over their bounds, so that its list is refused by what the file is, and by nothing else
+pub file_left : (f : List ℕ) → file_unplaced f ≡ answer_of (refusal_of f) (left_of_sheet (sheet_of f))
+unfolding file_unplaced unplaced_of refused_or answer_with
+file_left f = go (refusal_of f) refl
+  where
+    s : Sheet
+    s = sheet_of f
+
+    go : (n : ℕ) → refusal_of f ≡ n
+        → refused_or n (answer_of (when (over_bound s.many.kinds s.many.lines) 2) (left_of_sheet s)) ≡ answer_of n (left_of_sheet s)
+    go (suc n) e = refl
+    go zero e =
+        let few = bounds f (readable f e) in
+        let m = ap (λ (m : Counts). over_bound m.kinds m.lines) (many_is f) in
+        rw (← m, none_over (counts_of f).kinds (counts_of f).lines few.kinds few.lines) refl

@@ -5,8 +5,8 @@
 ghost use Rattle.std.specs.Prelude.{◌≡◌, ◌/◌, ◌%◌};
 ghost use Rattle.answer_word.specs.Answer.{unit};
 
-use std::fmt;
 use std::io::Read;
+use std::{fmt, io};
 
 // One byte more than a load file may have, so that a longer input is seen to be longer and not cut.
 pub const BYTES: usize = file_read::layout::MOST_BYTES + 1;
@@ -27,6 +27,23 @@ impl fmt::Display for Failure {
     }
 }
 
+// The input to its end. One that fills all the bytes is too long to be a load file, and is not read on.
+pub fn read_input<'a>(
+    input: &mut impl Read,
+    bytes: &'a mut [u8; BYTES],
+) -> Result<&'a [u8], Failure> {
+    let mut n = 0;
+    // Stays: it counts no turns, but the bytes that each read gave.
+    while n < BYTES {
+        let more = input.read(&mut bytes[n..]).map_err(|_| Failure::Unread)?;
+        if more == 0 {
+            break;
+        }
+        n += more;
+    }
+    Ok(&bytes[..n])
+}
+
 // Whether the input broke off, of which not all bytes are filled: once it is read to its end, a further read finds nothing and does not fail.
 fn broken_off(input: &mut impl Read) -> bool {
     let mut more = [0; 1];
@@ -36,24 +53,26 @@ fn broken_off(input: &mut impl Read) -> bool {
     }
 }
 
-// The input to its end, which is there when a read finds nothing, or fails. One that fills all the bytes is too long to be a load file, and is not
-// read on.
-pub fn read_input<'a>(
-    input: &mut impl Read,
-    bytes: &'a mut [u8; BYTES],
-) -> Result<&'a [u8], Failure> {
-    let mut n = 0;
-    // Stays: it counts no turns, but the bytes that each read gave.
-    while n < BYTES {
-        match input.read(&mut bytes[n..]) {
-            Ok(0) | Err(_) => break,
-            Ok(more) => n += more,
+// An input whose end is looked at twice, as the programs look at theirs: it is there when a read finds nothing, or fails, and a further one finds
+// nothing. Where that finds more, or fails too, the input broke off.
+#[derive(Drop)]
+pub struct Whole<'a, R> {
+    pub input: &'a mut R,
+}
+
+impl<R: Read> Read for Whole<'_, R> {
+    fn read(&mut self, buf: &mut [u8]) -> io::Result<usize> {
+        if buf.is_empty() {
+            return self.input.read(buf);
+        }
+        match self.input.read(buf) {
+            Ok(0) | Err(_) if broken_off(self.input) => {
+                Err(io::Error::from(io::ErrorKind::UnexpectedEof))
+            }
+            Ok(0) | Err(_) => Ok(0),
+            found => found,
         }
     }
-    if n < BYTES && broken_off(input) {
-        return Err(Failure::Unread);
-    }
-    Ok(&bytes[..n])
 }
 
 // The refusal number of an answer, 0 for none.
@@ -69,4 +88,78 @@ pub fn count_of(answer: u64) -> usize
     ensures { result ≡ answer % unit }
 {
     (answer % answer_word::UNIT) as usize
+}
+
+#[cfg(test)]
+mod tests {
+    use super::*;
+
+    // What one read gives.
+    #[derive(Clone, Copy)]
+    enum Turn {
+        Byte(u8),
+        Nothing,
+        Failure,
+    }
+
+    // An input that gives these, one after the other, and then nothing.
+    #[derive(Drop)]
+    struct Turns<'a> {
+        left: &'a [Turn],
+    }
+
+    impl Read for Turns<'_> {
+        fn read(&mut self, buf: &mut [u8]) -> io::Result<usize> {
+            let Some((turn, left)) = self.left.split_first() else {
+                return Ok(0);
+            };
+            self.left = left;
+            match (turn, buf.first_mut()) {
+                (Turn::Byte(byte), Some(cell)) => {
+                    *cell = *byte;
+                    Ok(1)
+                }
+                (Turn::Failure, _) => Err(io::Error::from(io::ErrorKind::ConnectionReset)),
+                _ => Ok(0),
+            }
+        }
+    }
+
+    // In each row the turns after a first byte, and what is read.
+    #[test]
+    fn read_input_tells_what_fails_and_stops_at_nothing(rt: HostRuntime) {
+        let mut bytes = [0; BYTES];
+        for (second, third, found) in [
+            (Turn::Byte(8), Turn::Nothing, Ok([7, 8].as_slice())),
+            (Turn::Byte(8), Turn::Failure, Err(Failure::Unread)),
+            (Turn::Nothing, Turn::Byte(8), Ok([7].as_slice())),
+            (Turn::Nothing, Turn::Failure, Ok([7].as_slice())),
+            (Turn::Failure, Turn::Byte(8), Err(Failure::Unread)),
+            (Turn::Failure, Turn::Nothing, Err(Failure::Unread)),
+            (Turn::Failure, Turn::Failure, Err(Failure::Unread)),
+        ] {
+            let turns = [Turn::Byte(7), second, third];
+            let mut input = Turns { left: &turns };
+            assert_eq!(rt; read_input(&mut input, &mut bytes), found);
+        }
+    }
+
+    #[test]
+    fn whole_looks_at_the_end_twice(rt: HostRuntime) {
+        let mut bytes = [0; BYTES];
+        for (second, third, found) in [
+            (Turn::Byte(8), Turn::Nothing, Ok([7, 8].as_slice())),
+            (Turn::Byte(8), Turn::Failure, Ok([7, 8].as_slice())),
+            (Turn::Nothing, Turn::Byte(8), Err(Failure::Unread)),
+            (Turn::Nothing, Turn::Failure, Err(Failure::Unread)),
+            (Turn::Failure, Turn::Byte(8), Err(Failure::Unread)),
+            (Turn::Failure, Turn::Nothing, Ok([7].as_slice())),
+            (Turn::Failure, Turn::Failure, Err(Failure::Unread)),
+        ] {
+            let turns = [Turn::Byte(7), second, third];
+            let mut input = Turns { left: &turns };
+            let mut whole = Whole { input: &mut input };
+            assert_eq!(rt; read_input(&mut whole, &mut bytes), found);
+        }
+    }
 }
