@@ -47,10 +47,30 @@ words_counted s =
     let r = fives (findings s) (findings_whole s) in
     ap (λ (l : ℕ). 5 * (l / 5)) r.1 ∙ ap (λ (n : ℕ). 5 * n) (mul-div_cancel r.0 (zero-lt-suc 4)) ∙ mul_comm 5 r.0 ∙ sym r.1
 
--- where a call has no refusal, it answers how many there are
-counted : (s : Sheet) (o : List ℕ) → check_refusal s o ≡ 0 → count_in (checked_of s o) ≡ count_of s
-unfolding checked_of answer_with
-counted s o e = rw e refl
+-- of two refusals that need no room neither does
+neither : (b : Bool) (r q : Refusal) → needed_of r ≡ 0 → needed_of q ≡ 0 → needed_of (cond b r q) ≡ 0
+neither true r q h k = h
+neither false r q h k = k
+
+-- none of the nine needs room where nothing is needed
+none_needed : (n : ℕ) → needed_of (refusal_by n 0) ≡ 0
+none_needed n =
+    neither (eqb n 1) _ _ refl
+    (neither (eqb n 2) _ _ refl
+    (neither (eqb n 3) _ _ refl
+    (neither (eqb n 4) _ _ refl
+    (neither (eqb n 5) _ _ refl (neither (eqb n 6) _ _ refl (neither (eqb n 7) _ _ refl (neither (eqb n 8) _ _ refl refl)))))))
+
+-- a call answers how many there are, refused for want of room too; of a sheet that is refused, none
+pub counted : (s : Sheet) (o : List ℕ) → count_in (checked_of s o) ≡ count_of s
+unfolding checked_of check_refusal count_of or_else answer_with
+counted s o = go (sheet_refusal s) (ltb (length o) (length (findings s))) (length (findings s) / 5)
+  where
+    go : (r : ℕ) (short : Bool) (n : ℕ)
+        → count_in (answer_with (or_else r (when short 6)) (cond (eqb r 0) n 0) (cond (eqb r 0) n 0)) ≡ cond (eqb r 0) n 0
+    go zero true n = refl
+    go zero false n = refl
+    go (suc r) short n = rw (ne_eqb (suc r) 0 (λ e. omega arith)) (none_needed (suc r))
 
 -- an accepted sheet, with room lent for all findings, is not refused
 pub not_refused : (s : Sheet) (o : List ℕ) → sheet_refusal s ≡ 0 → length (findings s) ≤ length o → number_in (checked_of s o) ≡ 0
@@ -60,6 +80,10 @@ not_refused s o h l = rw (h, le-ltb (length o) (length (findings s)) l) refl
 -- as many findings as there are, five words each, of what the cells hold after a call
 abbrev pub taken : Sheet → List ℕ → List ℕ
 taken s o = take (5 * count_of s) (cells_of s o)
+
+-- which is what a call writes
+pub written_taken : (s : Sheet) (o : List ℕ) → written s o ≡ taken s o
+written_taken s o = ap (λ (n : ℕ). take (5 * n) (cells_of s o)) (counted s o)
 
 -- they are the findings where there is no refusal
 pub taken_findings : (s : Sheet) (o : List ℕ) → check_refusal s o ≡ 0 → taken s o ≡ findings s
@@ -74,49 +98,17 @@ taken_findings s o h =
 -- and where it is not refused, what it writes are the findings
 pub written_findings : (s : Sheet) (o : List ℕ) → number_in (checked_of s o) ≡ 0 → written s o ≡ findings s
 unfolding checked_of
-written_findings s o h =
-    let e = unnumbered (check_refusal s o) (count_of s) (count_of s) h in
-    ap (λ (v : ℕ). take (5 * v) (cells_of s o)) (counted s o e) ∙ taken_findings s o e
+written_findings s o h = written_taken s o ∙ taken_findings s o (unnumbered (check_refusal s o) (count_of s) (count_of s) h)
 
--- ---- the same by what the sheet and the cells are refused by and by how many findings there are, of which the call's answer is made
+-- ---- the same by what the sheet and the cells are refused by, which is the answer's number
 
 check_numbered : (s : Sheet) (o : List ℕ) → Numbered (check_refusal s o)
 unfolding check_refusal
 check_numbered s o = or_numbered _ _ (sheet_numbered s) (when_numbered _ 6 (omega arith))
 
--- the answer's number is what is refused by
 pub number_answered : (s : Sheet) (o : List ℕ) → number_in (checked_of s o) ≡ check_refusal s o
 unfolding checked_of
 number_answered s o = number_is (check_refusal s o) (count_of s) (count_of s) (check_numbered s o)
-
--- none of the nine needs room where nothing is needed
-none_needed : (n : ℕ) → Numbered n → needed_of (refusal_by n 0) ≡ 0
-none_needed zero h = refl
-none_needed (suc zero) h = refl
-none_needed (suc (suc zero)) h = refl
-none_needed (suc (suc (suc zero))) h = refl
-none_needed (suc (suc (suc (suc zero)))) h = refl
-none_needed (suc (suc (suc (suc (suc zero))))) h = refl
-none_needed (suc (suc (suc (suc (suc (suc zero)))))) h = refl
-none_needed (suc (suc (suc (suc (suc (suc (suc zero))))))) h = refl
-none_needed (suc (suc (suc (suc (suc (suc (suc (suc zero)))))))) h = refl
-none_needed (suc (suc (suc (suc (suc (suc (suc (suc (suc zero))))))))) h = refl
-none_needed (suc (suc (suc (suc (suc (suc (suc (suc (suc (suc n)))))))))) h = absurd (omega arith)
-
--- the answer says how many there are, refused for want of room too; of a sheet that is refused, none
-pub count_answered : (s : Sheet) (o : List ℕ) → count_in (checked_of s o) ≡ count_of s
-unfolding checked_of check_refusal count_of or_else answer_with
-count_answered s o = go (sheet_refusal s) (sheet_numbered s) (ltb (length o) (length (findings s))) (length (findings s) / 5)
-  where
-    go : (r : ℕ) → Numbered r → (short : Bool) (n : ℕ)
-        → count_in (answer_with (or_else r (when short 6)) (cond (eqb r 0) n 0) (cond (eqb r 0) n 0)) ≡ cond (eqb r 0) n 0
-    go zero h true n = refl
-    go zero h false n = refl
-    go (suc r) h short n = rw (ne_eqb (suc r) 0 (λ e. omega arith)) (none_needed (suc r) h)
-
--- so what a call writes are as many as there are
-pub written_taken : (s : Sheet) (o : List ℕ) → written s o ≡ taken s o
-written_taken s o = ap (λ (n : ℕ). take (5 * n) (cells_of s o)) (count_answered s o)
 
 -- an accepted sheet, with room lent for all findings, is refused by nothing
 pub refused_by_none : (s : Sheet) (o : List ℕ) → sheet_refusal s ≡ 0 → length (findings s) ≤ length o → check_refusal s o ≡ 0

@@ -17,7 +17,7 @@ use Rattle.file_read.specs.Tables.{kinds_at}
 use Rattle.file_read.specs.Records.{kind_in, Readable, bounds, kind_is, many_is}
 use Rattle.file_accept.specs.Accept.{readable}
 use Rattle.plan_unplaced.specs.declared.Left.{Left}
-use Rattle.plan_unplaced.specs.Left.{over_bound, left_of, left_by, left_long, none_over, unplaced_of}
+use Rattle.plan_unplaced.specs.Left.{over_bound, left_of, left_of_sheet, left_long, none_over, unplaced_of}
 use Rattle.plan_unplaced.specs.Same.{same_lines}
 
 -- the first m kinds, blank past them
@@ -49,10 +49,6 @@ unplaced_is f z m n r kinds_are lines_are lines e =
     left_long (kinds_in f m) m lines n (rw (e, table_length blank_line most_lines (line_at (sheet_of f)) n) few)
     ∙ ap (λ (l : Left). answer_of (when (over_bound m n) 2) l) same
     ∙ rw (z, kinds_are, lines_are, kinds_in_is f r, ← (many_is f)) refl
-
--- what a sheet's own lines leave
-abbrev pub left_of_sheet : Sheet → Left
-left_of_sheet s = left_by s.kinds s.many.kinds s.lines s.many.lines
 
 -- a file that is not refused says no counts over their bounds, so that its list is refused by what the file is, and by nothing else
 pub file_left : (f : List ℕ) → file_unplaced f ≡ answer_of (refusal_of f) (left_of_sheet (sheet_of f))

@@ -48,9 +48,13 @@ left_by kinds m lines n = left_after kinds (flags_of kinds lines n m) m
 unfoldable pub left_of : List Kind → ℕ → List Line → ℕ → Result Left Refusal
 left_of kinds m lines n = answer_of (when (over_bound m n || ltb (length lines) n) 2) (left_by kinds m lines n)
 
--- that of a sheet, by its own lines
+-- what a sheet's own lines leave
+abbrev pub left_of_sheet : Sheet → Left
+left_of_sheet s = left_by s.kinds s.many.kinds s.lines s.many.lines
+
+-- the same, refused by 2 for a number over its bound
 unfoldable pub unplaced_of : Sheet → Result Left Refusal
-unplaced_of s = answer_of (when (over_bound s.many.kinds s.many.lines) 2) (left_by s.kinds s.many.kinds s.lines s.many.lines)
+unplaced_of s = answer_of (when (over_bound s.many.kinds s.many.lines) 2) (left_of_sheet s)
 
 -- ---- counts that are not over
 

@@ -1,4 +1,5 @@
-// What the programs share at their edges: how the input is read, and how a failure is told. No contract can say what is read or written.
+// What the programs share at their edges: how the input is read, and how a failure is told. No contract can say what standard input
+// holds, or what is written.
 
 #![tactic(auto)]
 
@@ -125,41 +126,40 @@ mod tests {
         }
     }
 
-    // In each row the turns after a first byte, and what is read.
+    // In each row the turns after a first byte, and what is read of them, by itself and as a whole.
     #[test]
-    fn read_input_tells_what_fails_and_stops_at_nothing(rt: HostRuntime) {
+    fn the_end_is_looked_at_once_or_twice(rt: HostRuntime) {
         let mut bytes = [0; BYTES];
-        for (second, third, found) in [
-            (Turn::Byte(8), Turn::Nothing, Ok([7, 8].as_slice())),
-            (Turn::Byte(8), Turn::Failure, Err(Failure::Unread)),
-            (Turn::Nothing, Turn::Byte(8), Ok([7].as_slice())),
-            (Turn::Nothing, Turn::Failure, Ok([7].as_slice())),
-            (Turn::Failure, Turn::Byte(8), Err(Failure::Unread)),
-            (Turn::Failure, Turn::Nothing, Err(Failure::Unread)),
-            (Turn::Failure, Turn::Failure, Err(Failure::Unread)),
+        let [one, two] = [[7].as_slice(), [7, 8].as_slice()];
+        let unread = Err(Failure::Unread);
+        for (second, third, by_itself, whole) in [
+            (Turn::Byte(8), Turn::Nothing, Ok(two), Ok(two)),
+            (Turn::Byte(8), Turn::Failure, unread, Ok(two)),
+            (Turn::Nothing, Turn::Byte(8), Ok(one), unread),
+            (Turn::Nothing, Turn::Failure, Ok(one), unread),
+            (Turn::Failure, Turn::Byte(8), unread, unread),
+            (Turn::Failure, Turn::Nothing, unread, Ok(one)),
+            (Turn::Failure, Turn::Failure, unread, unread),
         ] {
             let turns = [Turn::Byte(7), second, third];
             let mut input = Turns { left: &turns };
-            assert_eq!(rt; read_input(&mut input, &mut bytes), found);
+            assert_eq!(rt; read_input(&mut input, &mut bytes), by_itself);
+            let mut input = Turns { left: &turns };
+            let mut input = Whole { input: &mut input };
+            assert_eq!(rt; read_input(&mut input, &mut bytes), whole);
         }
     }
 
     #[test]
-    fn whole_looks_at_the_end_twice(rt: HostRuntime) {
+    fn no_more_is_read_than_fills_the_bytes(rt: HostRuntime) {
+        let long = [7; BYTES + 1];
         let mut bytes = [0; BYTES];
-        for (second, third, found) in [
-            (Turn::Byte(8), Turn::Nothing, Ok([7, 8].as_slice())),
-            (Turn::Byte(8), Turn::Failure, Ok([7, 8].as_slice())),
-            (Turn::Nothing, Turn::Byte(8), Err(Failure::Unread)),
-            (Turn::Nothing, Turn::Failure, Err(Failure::Unread)),
-            (Turn::Failure, Turn::Byte(8), Err(Failure::Unread)),
-            (Turn::Failure, Turn::Nothing, Ok([7].as_slice())),
-            (Turn::Failure, Turn::Failure, Err(Failure::Unread)),
-        ] {
-            let turns = [Turn::Byte(7), second, third];
-            let mut input = Turns { left: &turns };
-            let mut whole = Whole { input: &mut input };
-            assert_eq!(rt; read_input(&mut whole, &mut bytes), found);
-        }
+        let mut input = long.as_slice();
+        assert_eq!(rt; read_input(&mut input, &mut bytes), Ok(&long[..BYTES]));
+        assert_eq!(rt; input, &long[BYTES..]);
+        let mut input = long.as_slice();
+        let mut whole = Whole { input: &mut input };
+        assert_eq!(rt; read_input(&mut whole, &mut bytes), Ok(&long[..BYTES]));
+        assert_eq!(rt; input, &long[BYTES..]);
     }
 }
